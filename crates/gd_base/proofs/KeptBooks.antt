@@ -1,0 +1,65 @@
+-- Rules of a view that one entry more keeps, further: what there is and went out is what came in and was won.
+use Rattle.std.specs.Prelude.{◌≡◌, ℕ, zero, suc, ◌+◌, ◌*◌, ◌/◌, ◌%◌, ◌≤◌, ◌==◌, true, nat_le, List, [], ◌∷◌, Option, Some, None, refl}
+use Rattle.std.proofs.Common.{arith}
+use Rattle.std.proofs.lemmas.Bool.Decides.{nat_tests}
+use Rattle.std.proofs.Math.Nat.{div-add-mod}
+use Rattle.gd_base.specs.declared.play.Handpay.{Handpay}
+use Rattle.gd_base.specs.declared.play.Order.{Order}
+use Rattle.gd_base.specs.declared.play.OrderKind.{OrderKind}
+use Rattle.gd_base.specs.declared.setup.Setup.{Setup}
+use Rattle.gd_base.specs.Credit.{ordered_by}
+use Rattle.gd_base.specs.Entry.{Entry}
+use Rattle.gd_base.specs.Legal.{IsNext}
+use Rattle.gd_base.specs.Machine.{Blocks}
+use Rattle.gd_base.specs.Meters.{held_by}
+use Rattle.gd_base.specs.Payload.{left_of}
+use Rattle.gd_base.specs.Spelling.{is_possible, is_possible_under, view_rules, setup_rules, is_coins, is_whole, is_amount, is_small_order, held_in, income, outgo}
+use Rattle.gd_base.specs.Spelled.{Spelled}
+use Rattle.gd_base.specs.TheMachine.{machine}
+use Rattle.gd_base.specs.View.{View}
+use Rattle.gd_base.specs.ViewOf.{with_entry, from_view}
+use Rattle.gd_base.proofs.Books.{Balances}
+use Rattle.gd_base.proofs.BooksLegal.{AreCoins, IsWhole, Balances-legal}
+use Rattle.gd_base.proofs.Itself.{possible-itself}
+use Rattle.gd_base.proofs.Rules.{both, all_told}
+
+-- an order to the hopper that keeps the rules is a number of coins, at least one
+from_quotient : (q coin amount rest : ℕ) → coin * q + rest ≡ amount → rest ≡ 0 → 1 ≤ amount → IsWhole coin OrderKind.Hopper amount
+from_quotient zero coin amount rest e none some = absurd (grind (arith, e, none, some))
+from_quotient (suc k) coin amount rest e none some = (k, grind (arith, e, none))
+
+is_so : (m n : ℕ) → (m == n) ≡ true → m ≡ n
+is_so m n h = grind (arith, nat_tests, h)
+
+at_least : (n : ℕ) → nat_le 1 n ≡ true → 1 ≤ n
+at_least n h = grind (arith, nat_tests, h)
+
+whole_of : (setup : Setup) (kind : OrderKind) (amount : ℕ) → is_whole setup kind amount ≡ true → is_amount kind amount ≡ true → IsWhole setup.coin kind amount
+whole_of setup OrderKind.Printer amount h k = tt
+whole_of setup OrderKind.Hopper amount h k =
+    from_quotient (amount / setup.coin) setup.coin amount (amount % setup.coin) (div-add-mod amount setup.coin) (is_so (amount % setup.coin) 0 h) (at_least amount k)
+
+coins_of : (setup : Setup) (x : Option Order) → is_coins setup x ≡ true → is_small_order x ≡ true → AreCoins setup.coin x
+coins_of setup None h k = tt
+coins_of setup (Some o) h k = whole_of setup o.kind o.amount h k
+
+left_is : (x : Option Order) → ordered_by x ≡ left_of x
+left_is None = refl
+left_is (Some o) = refl
+
+held_is : (x : Option Handpay) → held_by x ≡ held_in x
+held_is None = refl
+held_is (Some h) = refl
+
+pub books_kept : (setup : Setup) (digest : List ℕ) (spelled : List ℕ → Spelled View) (blocks : Blocks) (lap : ℕ) (v : View) (e : Entry) → is_possible v ≡ true → is_possible_under setup v ≡ true
+    → IsNext (machine setup digest spelled) blocks lap v e → outgo (with_entry setup v e) ≡ income (with_entry setup v e)
+books_kept setup digest spelled blocks lap v e h k next =
+    let t = all_told (view_rules v) h in
+    let u = all_told (setup_rules setup v) k in
+    let o = from_view setup v in
+    let w = with_entry setup v e in
+    let same : outgo v ≡ income v = is_so (outgo v) (income v) (both (outgo v == income v) (nat_le (income v) (v.count * 100000000)) t.1.1.1.1.1.1.1.1.0).0 in
+    let first : Balances o [] = omega (arith, same, left_is v.order, held_is v.handpay) in
+    let coins = coins_of setup v.order u.0 t.1.1.1.1.1.1.1.1.1.1.1.1.1.0 in
+    let after : Balances o (e ∷ []) = Balances-legal o digest spelled blocks lap (e ∷ []) (possible-itself setup v h k) coins first (next, tt) in
+    omega (arith, after, left_is w.order, held_is w.handpay)

@@ -1,0 +1,27 @@
+//! Types of the gaming device, what its history means, and the traits of what is outside of it.
+#![tactic(auto)]
+
+mod draws;
+mod event;
+mod machine_core;
+mod play;
+mod setup;
+mod sink;
+mod source;
+mod step;
+mod tables;
+mod text;
+
+pub use draws::{Draws, ListDraws};
+pub use event::{Colour, Condition, Device, Door, Event, Game, Meter, Refusal, Reply, Tilt};
+pub use machine_core::{Core, MOST_ENTRIES, PAYLOAD_LEN};
+pub use play::{
+    BillRecord, Block, Choices, EventRecord, Handpay, Order, OrderKind, PlayRecord, Rank, Stage,
+    StageOpen, VoucherRecord,
+};
+pub use setup::Setup;
+pub use sink::{MemorySink, Sink, Writing};
+pub use source::{Failed, MemorySource, Reading, Source};
+pub use step::{Loaded, Numbered, Stepped, What};
+pub use tables::{LINES, REEL_PAYS, RUNS, STRIPS, SYMBOLS};
+pub use text::{TEXT_LEN, Text};

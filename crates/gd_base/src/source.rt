@@ -1,0 +1,136 @@
+//! A stream of bytes that may fail.
+ghost use Rattle.std.specs.Prelude.{◌≡◌, ◌≤◌, ◌<◌, ◌++◌, ◌↔◌, ℕ, List, [], Some, length, take, drop, IsErr};
+ghost use Rattle.std.specs.declared.option.Option.{Option};
+ghost use Rattle.std.specs.Io.{ReadsAtMost};
+ghost use Rattle.std.specs.Io.KnownBytes.{ReadConsumes};
+ghost use Rattle.gd_base.specs.Causes.{HasCause};
+
+use std::io::Read;
+use std::marker::Model;
+
+/// The thing outside failed.
+#[derive(Clone, Copy, Debug, PartialEq, Eq)]
+pub struct Failed;
+
+/// A stream of bytes to be taken.
+pub trait Source {
+    /// The bytes that are left, where the source tells them.
+    ghost left: { Self → Option (List ℕ) };
+
+    /// How often it has failed, up to 2^64 - 1.
+    ghost faults: { Self → ℕ };
+
+    /// Moves the next bytes into the front of `into`. `Ok(0)` with room is the end.
+    fn take(&mut self, into: &mut [u8]) -> Result<usize, Failed>
+        ensures bound { ReadsAtMost result into.new }
+        ensures bytes { ReadConsumes (left self.old) (left self.new) result into.new }
+        ensures cause { HasCause (faults self.old) (faults self.new) result };
+}
+
+/// Any reader of std as a source. An interrupted read is a fault like any other.
+#[derive(Drop)]
+pub struct Reading<R> {
+    inner: R,
+    faults: u64,
+}
+
+impl<R: Read> Reading<R> {
+    pub fn new(inner: R) -> Self
+        ensures inner { result.inner ≡ inner }
+        ensures faults { result.faults ≡ 0 }
+    {
+        Reading { inner, faults: 0 }
+    }
+}
+
+impl<R: Read> Source for Reading<R> {
+    ghost left = { λ s. R.remaining s.inner };
+
+    ghost faults = { λ s. s.faults };
+
+    fn take(&mut self, into: &mut [u8]) -> Result<usize, Failed> {
+        match self.inner.read(into) {
+            Ok(count) => Ok(count),
+            Err(_) => {
+                self.faults = self.faults.saturating_add(1);
+                Err(Failed)
+            }
+        }
+    }
+}
+
+/// Bytes in memory, which fail at one call or at none.
+#[derive(Drop)]
+pub struct MemorySource {
+    bytes: Vec<u8>,
+    at: usize,
+    until: Option<u64>,
+    faults: u64,
+}
+
+impl Model for MemorySource {
+    ghost use Rattle.std.specs.Prelude.{drop, ◌≤◌, vec_len};
+    ghost use Rattle.gd_base.specs.Outside.{SourceState};
+
+    ghost Value = { SourceState };
+
+    ghost view = { λ s. record { left = drop s.at s.bytes.items; until = s.until; faults = s.faults } };
+
+    ghost invariant = { λ s. s.at ≤ vec_len s.bytes };
+}
+
+impl MemorySource {
+    /// These bytes. The call `fail_at`, counted from 1, fails, and no other.
+    pub fn of(bytes: Vec<u8>, fail_at: Option<u64>) -> Self
+        ensures left { result.left ≡ bytes.items }
+        ensures until { result.until ≡ fail_at }
+        ensures faults { result.faults ≡ 0 }
+    {
+        MemorySource {
+            bytes,
+            at: 0,
+            until: fail_at,
+            faults: 0,
+        }
+    }
+}
+
+impl Source for MemorySource {
+    ghost left = { λ s. Some s.left };
+
+    ghost faults = { λ s. s.faults };
+
+    fn take(&mut self, into: &mut [u8]) -> Result<usize, Failed>
+        ensures bound { ReadsAtMost result into.new }
+        ensures bytes { ReadConsumes (Some self.old.left) (Some self.new.left) result into.new }
+        ensures cause { HasCause self.old.faults self.new.faults result }
+        // It fails at that one call.
+        ensures fails { IsErr result ↔ (self.old.until ≡ Some 1) }
+    {
+        match self.until {
+            Some(1) => {
+                self.until = None;
+                self.faults = self.faults.saturating_add(1);
+                return Err(Failed);
+            }
+            Some(calls) => self.until = Some(calls.saturating_sub(1)),
+            None => {}
+        }
+        Ok(copy_front(&self.bytes, &mut self.at, into))
+    }
+}
+
+/// Copies the bytes from `at` on, as many as there is room for, and moves `at` behind them.
+fn copy_front(bytes: &Vec<u8>, at: &mut usize, into: &mut [u8]) -> usize
+    requires { at.old ≤ length bytes.now.items }
+    ensures count { result ≤ length into.new }
+    ensures within { at.new ≤ length bytes.now.items }
+    ensures bytes { drop at.old bytes.now.items ≡ take result into.new ++ drop at.new bytes.now.items }
+    ensures end { result ≡ 0 → 0 < length into.new → drop at.new bytes.now.items ≡ [] }
+{
+    let start = *at;
+    let count = into.len().min(bytes.len() - start);
+    into[..count].copy_from_slice(&bytes[start..start + count]);
+    *at = start + count;
+    count
+}
