@@ -9,8 +9,9 @@ use Rattle.std.proofs.lemmas.Nat.{from_be_bytes-to_be_bytes_2, from_be_bytes-to_
 use Rattle.gd_base.specs.declared.event.Condition.{Condition}
 use Rattle.gd_base.specs.declared.event.Refusal.{Refusal}
 use Rattle.gd_base.specs.declared.event.Reply.{Reply}
-use Rattle.gd_base.specs.Payload.{two, four, eight, filled, flags, reply_bytes, reply_kind, reply_refusal, reply_condition}
+use Rattle.gd_base.specs.Payload.{two, four, eight, filled, flags, reply_bytes}
 use Rattle.gd_base.specs.Reading.{reply_of}
+use Rattle.gd_base.specs.ViewCode.{reply_back}
 use Rattle.gd_base.specs.Spelling.{fall_from}
 use Rattle.gd_base.proofs.Rules.{both}
 
@@ -128,15 +129,6 @@ flags_one (x ∷ xs) (y ∷ ys) l e =
 
 abbrev reply_from : List ℕ → Option Reply
 reply_from bytes = reply_of (first bytes) (first (rest bytes)) (first (rest (rest bytes)))
-
--- the three numbers of a reply are those of that reply
-pub reply_back : (r : Option Reply) → reply_of (reply_kind r) (reply_refusal r) (reply_condition r) ≡ r
-unfolding reply_of
-reply_back None = refl
-reply_back (Some Reply.Taken) = refl
-reply_back (Some (Reply.Refused (Refusal.LockedUp Condition.LogicDoor))) = refl
-reply_back (Some (Reply.Refused (Refusal.LockedUp _))) = refl
-reply_back (Some (Reply.Refused _)) = refl
 
 three_bytes : (r : Option Reply) → length (reply_bytes r) ≡ 3
 three_bytes None = refl

@@ -14,6 +14,7 @@ pub mod Fields
 pub mod Records
 pub mod OneView
 pub mod Same
+pub mod SoFar
 pub mod Fronts
 pub mod Itself
 pub mod KeptRules

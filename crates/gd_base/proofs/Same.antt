@@ -21,7 +21,7 @@ numbers_one (x ∷ xs) (y ∷ ys) h =
     let more = numbers_one xs ys t.1 in
     λ i. one i ∷ more i
 
-numbers_same : (xs : List ℕ) → same_numbers xs xs ≡ true
+pub numbers_same : (xs : List ℕ) → same_numbers xs xs ≡ true
 numbers_same [] = refl
 numbers_same (x ∷ xs) =
     let one : (x == x) ≡ true = grind (arith, nat_tests) in

@@ -25,6 +25,7 @@ pub mod Texts
 pub mod Payload
 pub mod Spelling
 pub mod Reading
+pub mod ViewCode
 pub mod TheMachine
 pub mod SoFar
 pub mod Causes
