@@ -15,6 +15,7 @@ pub mod Records
 pub mod OneView
 pub mod Same
 pub mod SoFar
+pub mod SoFarSteps
 pub mod Fronts
 pub mod Itself
 pub mod KeptRules

@@ -1,15 +1,17 @@
 -- While the machine is being built: what it makes of the events and payloads of which not all is there yet. Each
 -- definition here goes when its part is built.
-use Rattle.std.specs.Prelude.{ℕ, Bool, true, false, ◌&&◌, if◌then◌else◌, List, [], ◌∷◌, replicate, Option, None, refl}
+use Rattle.std.specs.Prelude.{ℕ, ◌+◌, Bool, true, false, ◌&&◌, nat_lt, if◌then◌else◌, List, [], ◌∷◌, map, replicate, Option, Some, refl}
+use Rattle.gd_base.specs.declared.event.Device.{Device}
 use Rattle.gd_base.specs.declared.event.Event.{Event}
 use Rattle.gd_base.specs.declared.event.Refusal.{Refusal}
 use Rattle.gd_base.specs.declared.event.Reply.{Reply}
 use Rattle.gd_base.specs.declared.setup.Setup.{Setup}
-use Rattle.gd_base.specs.Entry.{Entry}
+use Rattle.gd_base.specs.Devices.{devices, kept_at}
+use Rattle.gd_base.specs.Entry.{device_place, is_device}
 use Rattle.gd_base.specs.Machine.{Machine}
 use Rattle.gd_base.specs.Payload.{payload_of}
 use Rattle.gd_base.specs.Reading.{number_at, kept_read}
-use Rattle.gd_base.specs.Rule.{rule}
+use Rattle.gd_base.specs.Rule.{rule, is_bill}
 use Rattle.gd_base.specs.Spelled.{Spelled, Shows, Unreadable}
 use Rattle.gd_base.specs.Spelling.{is_possible}
 use Rattle.gd_base.specs.TheMachine.{machine, same_numbers}
@@ -29,6 +31,12 @@ abbrev pub is_built : Event → Bool
 is_built (Event.Bill value) = true
 is_built Event.Start = true
 is_built _ = false
+
+-- how a bill is judged: its value, then the credit limit
+abbrev pub bill_reply : Setup → ℕ → ℕ → Reply
+bill_reply setup balance value =
+    if is_bill setup value then (if nat_lt setup.credit_limit (balance + value) then Reply.Refused Refusal.CreditLimit else Reply.Taken)
+    else Reply.Refused Refusal.ValueNotEnabled
 
 -- any other is refused, and has no effect but its entry
 abbrev pub rule_so_far : Setup → View → Event → Reply
@@ -66,3 +74,13 @@ machine_so_far setup = record (machine setup no_digest spelled_so_far) {
   is_drawn = λ v event. false;
   count_effect = λ v e. refl;
 }
+
+-- ================ what an entry keeps of its device
+
+-- one number more, and its reply
+abbrev pub kept_after : Device → Reply → List (ℕ × Option Reply) → Device → ℕ × Option Reply
+kept_after d reply kept x =
+    ((kept_at kept (device_place x)).0 + (if is_device d x then 1 else 0), if is_device d x then Some reply else (kept_at kept (device_place x)).1)
+
+abbrev pub with_reply : Device → Reply → List (ℕ × Option Reply) → List (ℕ × Option Reply)
+with_reply d reply kept = map (kept_after d reply kept) devices
