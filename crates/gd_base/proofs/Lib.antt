@@ -4,6 +4,8 @@ pub mod Totals
 mod ChanceRows
 mod HistoryRows
 mod PayloadRows
+pub mod Digits
+pub mod Lines
 pub mod Books
 pub mod BooksLegal
 pub mod Indexes
