@@ -3,6 +3,7 @@
 
 mod draws;
 mod event;
+pub mod laws;
 mod machine_core;
 mod names;
 mod play;
