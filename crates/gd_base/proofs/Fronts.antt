@@ -1,10 +1,10 @@
 -- What is given in part.
-use Rattle.std.proofs.Common.{◌≡◌, ℕ, ◌+◌, List, [], ◌++◌, Bool, true, false, cond, Some, refl, sym, ◌∙◌, ap, subst, take, drop, append-nil, take-append-drop, length, ◌-◌, ◌≤◌, arith, length-drop}
+use Rattle.std.proofs.Common.{◌≡◌, ℕ, ◌+◌, List, [], ◌++◌, Bool, true, false, cond, Some, refl, sym, ◌∙◌, subst, take, drop, append-nil, take-append-drop, length, ◌-◌, ◌≤◌, arith, length-drop}
 use Rattle.std.proofs.lemmas.List.{take_all}
 use Rattle.std.proofs.Math.Seq.{take-add}
-use Rattle.std.proofs.KnownBytes.{Appends-trans, Appends-nil, Appends-kept}
+use Rattle.std.proofs.KnownBytes.{Appends-trans}
 use Rattle.std.specs.declared.option.Option.{Option}
-use Rattle.std.specs.Io.KnownBytes.{Appends, Keeps}
+use Rattle.std.specs.Io.KnownBytes.{Appends}
 use Rattle.gd_base.specs.Causes.{AppendsFront}
 
 -- the first n bytes are a front

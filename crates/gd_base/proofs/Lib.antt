@@ -1,9 +1,12 @@
-pub mod Laws
+pub mod OneMore
 pub mod OneStep
 pub mod Totals
-mod ChanceRows
-mod HistoryRows
-mod PayloadRows
+pub mod ChanceRows
+pub mod HistoryRows
+pub mod PayloadRows
+pub mod TextRows
+pub mod Digits
+pub mod Lines
 pub mod Books
 pub mod BooksLegal
 pub mod Indexes

@@ -30,3 +30,7 @@ pub mod TheMachine
 pub mod SoFar
 pub mod Causes
 pub mod Outside
+pub mod ChanceRows
+pub mod HistoryRows
+pub mod TextRows
+pub mod PayloadRows

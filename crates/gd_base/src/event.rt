@@ -130,6 +130,26 @@ pub enum Meter {
     DropOpen,
 }
 
+/// The meters in the order in which they are shown and kept: nine amounts, then seven counts.
+pub const METERS: [Meter; 16] = [
+    Meter::BillIn,
+    Meter::CoinIn,
+    Meter::VoucherIn,
+    Meter::Wagered,
+    Meter::Won,
+    Meter::VoucherOut,
+    Meter::CoinOut,
+    Meter::HandWin,
+    Meter::HandCancel,
+    Meter::GamesPlayed,
+    Meter::GamesWon,
+    Meter::PowerUps,
+    Meter::LogicOpen,
+    Meter::MainOpen,
+    Meter::CashboxOpen,
+    Meter::DropOpen,
+];
+
 impl Event {
     ghost use Rattle.std.specs.Prelude.{◌≡◌};
     ghost use Rattle.gd_base.specs.Entry.{device_of};

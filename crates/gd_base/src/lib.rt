@@ -3,7 +3,9 @@
 
 mod draws;
 mod event;
+pub mod laws;
 mod machine_core;
+mod names;
 mod play;
 mod setup;
 mod sink;
@@ -13,7 +15,9 @@ mod tables;
 mod text;
 
 pub use draws::{Draws, ListDraws};
-pub use event::{Colour, Condition, Device, Door, Event, Game, Meter, Refusal, Reply, Tilt};
+pub use event::{
+    Colour, Condition, Device, Door, Event, Game, METERS, Meter, Refusal, Reply, Tilt,
+};
 pub use machine_core::{Core, MOST_ENTRIES, PAYLOAD_LEN};
 pub use play::{
     BillRecord, Block, Choices, EventRecord, Handpay, Order, OrderKind, PlayRecord, Rank, Stage,
@@ -24,4 +28,4 @@ pub use sink::{MemorySink, Sink, Writing};
 pub use source::{Failed, MemorySource, Reading, Source};
 pub use step::{Loaded, Numbered, Stepped, What};
 pub use tables::{LINES, REEL_PAYS, RUNS, STRIPS, SYMBOLS};
-pub use text::{TEXT_LEN, Text};
+pub use text::{TEXT_LEN, Text, push_meter, push_meters, push_number, push_reply};

@@ -1,0 +1,16 @@
+-- Worked rows of texts, by computation.
+use Rattle.std.specs.Prelude.{refl}
+use Rattle.std.specs.Fmt.{digits}
+use Rattle.gd_base.specs.TextRows.{States, Orders, Recalls}
+
+pub states : States
+unfolding digits
+states = record { pick = refl; hold = refl; hopper = refl; cancel = refl }
+
+pub orders : Orders
+unfolding digits
+orders = record { coins = refl }
+
+pub recalls : Recalls
+unfolding digits
+recalls = record { pick = refl; straight = refl; gambles = refl }

@@ -1,0 +1,8 @@
+use Rattle.gd_base.proofs.PayloadRows.{lengths, possible}
+use Rattle.gd_base.proofs.laws.payload_rows.computed.Goals as goal
+
+pub returns-clause-lengths : goal.returns-clause-lengths
+returns-clause-lengths c = lengths
+
+pub returns-clause-possible : goal.returns-clause-possible
+returns-clause-possible c = possible
