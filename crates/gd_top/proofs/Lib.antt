@@ -1,1 +1,3 @@
 mod Head
+mod OneEntry
+mod Spelling
