@@ -12,8 +12,8 @@ const FIRST_HALF: u8 = 1;
 
 const SECOND_HALF: u8 = 2;
 
-/// At each place the byte of the last good sync, the byte now, and a mark where it was written since. All marks stand
-/// from `low` to `high`.
+/// At each place the byte of the last good sync, the byte now, and a mark where it was written since, by the half of the
+/// write that it stood in. The marks stand from `low` on and before `high`.
 #[derive(Drop)]
 pub(crate) struct Medium {
     pub(crate) durable: Vec<u8>,
@@ -96,7 +96,7 @@ impl Medium {
     }
 }
 
-// The places from which and to which there are marks, with those of a range more.
+// The span of the marks, from `low` on and before `high`, with a range more. A span with no place in it has no mark.
 fn widened(low: usize, high: usize, at: usize, end: usize) -> (usize, usize)
     requires span { low ≤ high }
     requires range { at ≤ end }
@@ -158,7 +158,7 @@ fn settle_span(durable: &mut [u8], current: &[u8], marks: &mut [u8], low: usize,
     unmark(marks, low, high);
 }
 
-// What a loss leaves: of the bytes that are marked, the old one, the new one, the new one in a first half, or 0xA5.
+// Puts what a loss leaves in place of the bytes now.
 fn tear(durable: &[u8], current: &mut [u8], marks: &[u8], low: usize, high: usize, torn: u8)
     requires marked { IsMarked durable.now current.old marks.now }
     requires span { IsSpan low high marks.now }
@@ -169,6 +169,7 @@ fn tear(durable: &[u8], current: &mut [u8], marks: &[u8], low: usize, high: usiz
     }
 }
 
+// What a loss of a kind leaves at a place with this mark, or with none.
 fn torn_byte(old: u8, new: u8, mark: u8, torn: u8) -> u8
     ensures { mark ≡ 0 → result ≡ old }
 {
@@ -179,6 +180,7 @@ fn torn_byte(old: u8, new: u8, mark: u8, torn: u8) -> u8
     }
 }
 
+// Combines a byte with a mask by exclusive or.
 fn alter_byte(bytes: &mut [u8], at: usize, mask: u8)
     requires { at < length bytes.old }
     ensures { bytes.new ≡ altered at mask bytes.old }
