@@ -97,8 +97,10 @@ other_event M v e expected h =
 
 pub exactly : {V : Type 0} (M : Machine V) (v : V) (e : Numbered) → AnswersExactly M v e
 exactly M v e = record {
-  new = λ reply. (λ h. (let known = new_event M v e reply h in (known.number, known.room, known.judged)),
-      λ t. subst (λ (r : Reply). answer M v e ≡ Stepped.New r) t.2 (answer_new M v e t.0 t.1));
+  new = λ reply. (
+    λ h. (let known = new_event M v e reply h in (known.number, known.room, known.judged)),
+    λ t. subst (λ (r : Reply). answer M v e ≡ Stepped.New r) t.2 (answer_new M v e t.0 t.1),
+  );
   full = (full_event M v e, λ t. answer_full M v e t.0 t.1);
   again = λ reply. (again_event M v e reply, λ t. subst (λ (r : Reply). answer M v e ≡ Stepped.Again r) t.2 (answer_again M v e t.0 t.1));
   out_of_step = λ expected. (other_event M v e expected, λ t. subst (λ (n : ℕ). answer M v e ≡ Stepped.OutOfStep n) t.2 (out_of_step M v e t.0 t.1));

@@ -52,12 +52,45 @@ keeps_rules setup digest spelled blocks lap v e h k next =
     let places = places_of v s.0 in
     let order = order_kept setup v e judged (s.1.1.0, s.1.1.1.0) in
     all_hold (kept_rules w) (
-      t.0, (t.1.0, (refl, (refl, (refl, (refl,
-      (count_kept setup v e next.room,
-      (devices_kept setup v e (is_so (length v.kept) 9 t.1.1.1.1.1.0) r.1.0,
-      (test_of _ _ (books_kept setup digest spelled blocks lap v e h k next),
-      (counts_kept setup v e (is_so (length v.totals) 16 t.1.1.0) r.1.1.1.0,
-      (test_le _ _ (orders_kept setup v e (at_most v.orders v.count r.1.1.1.1.0)),
-      (events_fall setup v e places.0, (bills_fall setup v e places.1, (vouchers_fall setup v e places.2,
-      (lists_short setup v e, (order.0, (order.1, (handpay_kept setup v e judged s.1.1.1.1.0, tt)))))))))))))))))
+      t.0,
+      (
+        t.1.0,
+        (
+          refl,
+          (
+            refl,
+            (
+              refl,
+              (
+                refl,
+                (
+                  count_kept setup v e next.room,
+                  (
+                    devices_kept setup v e (is_so (length v.kept) 9 t.1.1.1.1.1.0) r.1.0,
+                    (
+                      test_of _ _ (books_kept setup digest spelled blocks lap v e h k next),
+                      (
+                        counts_kept setup v e (is_so (length v.totals) 16 t.1.1.0) r.1.1.1.0,
+                        (
+                          test_le _ _ (orders_kept setup v e (at_most v.orders v.count r.1.1.1.1.0)),
+                          (
+                            events_fall setup v e places.0,
+                            (
+                              bills_fall setup v e places.1,
+                              (
+                                vouchers_fall setup v e places.2,
+                                (lists_short setup v e, (order.0, (order.1, (handpay_kept setup v e judged s.1.1.1.1.0, tt)))),
+                              ),
+                            ),
+                          ),
+                        ),
+                      ),
+                    ),
+                  ),
+                ),
+              ),
+            ),
+          ),
+        ),
+      ),
     )

@@ -12,6 +12,8 @@ mod sink;
 mod source;
 mod step;
 mod tables;
+#[cfg(test)]
+mod tests;
 mod text;
 
 pub use draws::{Draws, ListDraws};

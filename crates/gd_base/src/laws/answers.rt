@@ -9,5 +9,4 @@ use crate::machine_core::Core;
 /// For every machine by the views of a core: each of the four answers comes exactly where `specs/Exact` says.
 pub fn exact<C: Core>()
     ensures { (M : Machine C.View) (v : C.View) (e : Numbered) → AnswersExactly M v e }
-{
-}
+{}

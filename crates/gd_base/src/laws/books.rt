@@ -6,5 +6,4 @@ ghost use Rattle.gd_base.specs.Books.{KeepsBooks, KeepsBooksOver};
 pub fn nothing_lost()
     ensures history { KeepsBooks }
     ensures view { KeepsBooksOver }
-{
-}
+{}

@@ -10,5 +10,4 @@ pub fn no_block_twice()
     ensures step { (setup : Setup) (v : View) (e : Entry) → MovesIndex setup v e }
     ensures rise { RiseStrictly }
     ensures none_is_zero { NoneIsZero }
-{
-}
+{}

@@ -6,5 +6,4 @@ ghost use Rattle.gd_base.specs.OneView.{HasOneView, SpellsOneThing};
 pub fn one_view()
     ensures view { HasOneView }
     ensures spelled { SpellsOneThing }
-{
-}
+{}

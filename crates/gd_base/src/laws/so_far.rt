@@ -12,5 +12,4 @@ ghost use Rattle.gd_base.specs.ViewOf.{view_after, from_view};
 pub fn whole_history()
     ensures { (setup : Setup) (v : View) (e : Entry) (past : List Entry)
         → view_over (machine_so_far setup) v (e ∷ past) ≡ without_recall (view_after (from_view setup v) (e ∷ past)) }
-{
-}
+{}

@@ -12,5 +12,4 @@ ghost use Rattle.gd_base.specs.View.{View};
 pub fn always_taken()
     ensures taken { (setup : Setup) (v : View) → rule setup v Event.Start ≡ Reply.Taken }
     ensures undrawn { (setup : Setup) (v : View) → is_drawn setup v Event.Start ≡ false }
-{
-}
+{}

@@ -7,5 +7,4 @@ pub fn whole_history()
     ensures enough { IsViewEnough }
     ensures whole { IsWholeHistory }
     ensures itself { AreThemselves }
-{
-}
+{}
