@@ -24,7 +24,8 @@ use Rattle.gd_base.specs.Spelled.{Spelled}
 use Rattle.gd_base.specs.TheMachine.{machine}
 use Rattle.gd_base.specs.View.{View}
 use Rattle.gd_base.specs.ViewOf.{view_after, IsItself}
-use Rattle.gd_base.proofs.Books.{Fits, Balances, win_by, Balances-taken}
+use Rattle.gd_base.specs.Books.{Balances}
+use Rattle.gd_base.proofs.Books.{Fits, win_by, Balances-taken}
 use Rattle.gd_base.proofs.ViewOver.{view_over-is}
 
 -- ================ what a taken event tells

@@ -1,15 +1,16 @@
 -- Rules of a view that one entry more keeps, further: what there is and went out is what came in and was won.
 use Rattle.std.specs.Prelude.{◌≡◌, ℕ, zero, suc, ◌+◌, ◌*◌, ◌/◌, ◌%◌, ◌≤◌, ◌==◌, true, nat_le, List, [], ◌∷◌, Option, Some, None, refl}
-use Rattle.std.proofs.Common.{arith}
+use Rattle.std.proofs.Common.{arith, sym, subst}
 use Rattle.std.proofs.lemmas.Bool.Decides.{nat_tests}
 use Rattle.std.proofs.Math.Nat.{div-add-mod}
 use Rattle.gd_base.specs.declared.play.Handpay.{Handpay}
 use Rattle.gd_base.specs.declared.play.Order.{Order}
 use Rattle.gd_base.specs.declared.play.OrderKind.{OrderKind}
 use Rattle.gd_base.specs.declared.setup.Setup.{Setup}
+use Rattle.gd_base.specs.Books.{Balances, KeepsBooks, KeepsBooksOver}
 use Rattle.gd_base.specs.Credit.{ordered_by}
 use Rattle.gd_base.specs.Entry.{Entry}
-use Rattle.gd_base.specs.Legal.{IsNext}
+use Rattle.gd_base.specs.Legal.{IsNext, IsLegal, view_over}
 use Rattle.gd_base.specs.Machine.{Blocks}
 use Rattle.gd_base.specs.Meters.{held_by}
 use Rattle.gd_base.specs.Payload.{left_of}
@@ -17,11 +18,11 @@ use Rattle.gd_base.specs.Spelling.{is_possible, is_possible_under, view_rules, s
 use Rattle.gd_base.specs.Spelled.{Spelled}
 use Rattle.gd_base.specs.TheMachine.{machine}
 use Rattle.gd_base.specs.View.{View}
-use Rattle.gd_base.specs.ViewOf.{with_entry, from_view}
-use Rattle.gd_base.proofs.Books.{Balances}
+use Rattle.gd_base.specs.ViewOf.{with_entry, view_after, from_view}
 use Rattle.gd_base.proofs.BooksLegal.{AreCoins, IsWhole, Balances-legal}
 use Rattle.gd_base.proofs.Itself.{possible-itself}
 use Rattle.gd_base.proofs.Rules.{both, all_told}
+use Rattle.gd_base.proofs.ViewOver.{view_over-is}
 
 -- an order to the hopper that keeps the rules is a number of coins, at least one
 from_quotient : (q coin amount rest : ℕ) → coin * q + rest ≡ amount → rest ≡ 0 → 1 ≤ amount → IsWhole coin OrderKind.Hopper amount
@@ -51,15 +52,41 @@ held_is : (x : Option Handpay) → held_by x ≡ held_in x
 held_is None = refl
 held_is (Some h) = refl
 
+-- over a view that keeps the rules of a view
+first_balances : (setup : Setup) (v : View) → is_possible v ≡ true → Balances (from_view setup v) []
+first_balances setup v h =
+    let t = all_told (view_rules v) h in
+    let same : outgo v ≡ income v = is_so (outgo v) (income v) (both (outgo v == income v) (nat_le (income v) (v.count * 100000000)) t.1.1.1.1.1.1.1.1.0).0 in
+    omega (arith, same, left_is v.order, held_is v.handpay)
+
+first_coins : (setup : Setup) (v : View) → is_possible v ≡ true → is_possible_under setup v ≡ true → AreCoins setup.coin v.order
+first_coins setup v h k =
+    let t = all_told (view_rules v) h in
+    let u = all_told (setup_rules setup v) k in
+    coins_of setup v.order u.0 t.1.1.1.1.1.1.1.1.1.1.1.1.1.0
+
+balances_over : (setup : Setup) (digest : List ℕ) (spelled : List ℕ → Spelled View) (blocks : Blocks) (lap : ℕ) (v : View) (past : List Entry) → is_possible v ≡ true → is_possible_under setup v ≡ true
+    → IsLegal (machine setup digest spelled) blocks lap v past → Balances (from_view setup v) past
+balances_over setup digest spelled blocks lap v past h k legal =
+    Balances-legal (from_view setup v) digest spelled blocks lap past (possible-itself setup v h k) (first_coins setup v h k) (first_balances setup v h) legal
+
+balanced_view : (setup : Setup) (v : View) (past : List Entry) → Balances (from_view setup v) past → outgo (view_after (from_view setup v) past) ≡ income (view_after (from_view setup v) past)
+balanced_view setup v past after =
+    let w = view_after (from_view setup v) past in
+    omega (arith, after, left_is w.order, held_is w.handpay)
+
 pub books_kept : (setup : Setup) (digest : List ℕ) (spelled : List ℕ → Spelled View) (blocks : Blocks) (lap : ℕ) (v : View) (e : Entry) → is_possible v ≡ true → is_possible_under setup v ≡ true
     → IsNext (machine setup digest spelled) blocks lap v e → outgo (with_entry setup v e) ≡ income (with_entry setup v e)
 books_kept setup digest spelled blocks lap v e h k next =
-    let t = all_told (view_rules v) h in
-    let u = all_told (setup_rules setup v) k in
-    let o = from_view setup v in
-    let w = with_entry setup v e in
-    let same : outgo v ≡ income v = is_so (outgo v) (income v) (both (outgo v == income v) (nat_le (income v) (v.count * 100000000)) t.1.1.1.1.1.1.1.1.0).0 in
-    let first : Balances o [] = omega (arith, same, left_is v.order, held_is v.handpay) in
-    let coins = coins_of setup v.order u.0 t.1.1.1.1.1.1.1.1.1.1.1.1.1.0 in
-    let after : Balances o (e ∷ []) = Balances-legal o digest spelled blocks lap (e ∷ []) (possible-itself setup v h k) coins first (next, tt) in
-    omega (arith, after, left_is w.order, held_is w.handpay)
+    balanced_view setup v (e ∷ []) (balances_over setup digest spelled blocks lap v (e ∷ []) h k (next, tt))
+
+-- ================ the laws
+
+pub keeps_books : KeepsBooks
+keeps_books setup digest spelled blocks lap opening past itself small coins first legal =
+    Balances-legal (from_view setup opening) digest spelled blocks lap past itself (coins_of setup opening.order coins small) first legal
+
+pub keeps_books_over : KeepsBooksOver
+keeps_books_over setup digest spelled blocks lap opening past h k legal =
+    subst (λ (w : View). outgo w ≡ income w) (sym (view_over-is setup digest spelled opening past (possible-itself setup opening h k)))
+    (balanced_view setup opening past (balances_over setup digest spelled blocks lap opening past h k legal))

@@ -27,3 +27,7 @@ pub mod KeptBooks
 pub mod KeptOrder
 pub mod KeptCounts
 pub mod KeptHandpay
+pub mod OneSpelled
+pub mod Exact
+pub mod Whole
+pub mod Kept

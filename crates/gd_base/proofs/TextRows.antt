@@ -1,7 +1,7 @@
 -- Worked rows of texts, by computation.
 use Rattle.std.specs.Prelude.{refl}
 use Rattle.std.specs.Fmt.{digits}
-use Rattle.gd_base.specs.TextRows.{States, Orders, Recalls}
+use Rattle.gd_base.specs.TextRows.{MetersText, States, Orders, Recalls, Logs}
 
 pub states : States
 unfolding digits
@@ -14,3 +14,11 @@ orders = record { coins = refl }
 pub recalls : Recalls
 unfolding digits
 recalls = record { pick = refl; straight = refl; gambles = refl }
+
+pub meters : MetersText
+unfolding digits
+meters = record { one_bill = refl }
+
+pub logs : Logs
+unfolding digits
+logs = record { evening = refl; cancel = refl }

@@ -34,3 +34,9 @@ pub mod ChanceRows
 pub mod HistoryRows
 pub mod TextRows
 pub mod PayloadRows
+pub mod Books
+pub mod OneView
+pub mod Whole
+pub mod Exact
+pub mod Indexes
+pub mod Kept

@@ -1,5 +1,6 @@
 -- Worked rows of payloads, to be computed: their length, and views that keep the rules of a view.
 use Rattle.std.specs.Prelude.{◌≡◌, ℕ, IsTrue, length, replicate}
+use Rattle.gd_base.specs.declared.machine_core.TheConstants.{PAYLOAD_LEN}
 use Rattle.gd_base.specs.declared.setup.Setup.{Setup}
 use Rattle.gd_base.specs.BuiltIn.{built_in_setup}
 use Rattle.gd_base.specs.HistoryRows.{evening, gambles, open_pick}
@@ -16,11 +17,11 @@ empty = empty_view (replicate 32 7)
 abbrev pub with_digest : View → View
 with_digest v = record v { digest = replicate 32 7 }
 
--- a head has 324 bytes, and a payload 16,384
+-- a head has 324 bytes, and a payload those of `PAYLOAD_LEN`
 pub record Lengths : Type 0 where
   pub head : length (head_bytes empty) ≡ 324
-  pub of_empty : length (payload_of empty) ≡ 16384
-  pub of_evening : length (payload_of (with_digest evening)) ≡ 16384
+  pub of_empty : length (payload_of empty) ≡ PAYLOAD_LEN
+  pub of_evening : length (payload_of (with_digest evening)) ≡ PAYLOAD_LEN
 
 -- the rules of a view hold of the empty view under each setup, and of the views of the rows
 pub record ArePossible : Type 0 where

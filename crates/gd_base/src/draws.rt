@@ -3,8 +3,10 @@
 ghost use Rattle.std.specs.Prelude.{◌≡◌, ℕ, List};
 
 use super::play::Block;
+use std::marker::Model;
 
-/// A block of 16 random words for each lap and index. A lap is the number of memories that this program run has cleared.
+/// A block of 16 random words for each lap and index. A lap is the number of memories that this program run has cleared
+/// before, and an index the number of plays taken and starts before in the history, so no block is used twice.
 pub trait Draws {
     /// The block of a lap and an index.
     ghost block_of: { Self → ℕ → ℕ → List ℕ };
@@ -15,10 +17,18 @@ pub trait Draws {
         ensures same { (l i : ℕ) → block_of self.new l i ≡ block_of self.old l i };
 }
 
-/// Listed blocks in lap 0, and blocks of zeros past the list and in other laps.
+/// Listed blocks in lap 0, and blocks of zeros past the list and in other laps. A contract sees them as their list.
 #[derive(Drop)]
 pub struct ListDraws {
     blocks: Vec<Block>,
+}
+
+impl Model for ListDraws {
+    ghost use Rattle.std.specs.Prelude.{ℕ, List};
+
+    ghost Value = { List (List ℕ) };
+
+    ghost view = { λ d. d.blocks.items };
 }
 
 impl ListDraws {
@@ -26,7 +36,8 @@ impl ListDraws {
 
     /// These blocks, of which the first has index 0.
     pub fn of(blocks: Vec<Block>) -> Self
-        ensures { (lap index : ℕ) → listed result.blocks.items lap index ≡ listed blocks.items lap index }
+        ensures blocks { result ≡ blocks.items }
+        ensures block_of { (lap index : ℕ) → ⟦<ListDraws as Draws>⟧.block_of result lap index ≡ listed blocks.items lap index }
     {
         ListDraws { blocks }
     }
@@ -35,7 +46,7 @@ impl ListDraws {
 impl Draws for ListDraws {
     ghost use Rattle.gd_base.specs.Outside.{listed};
 
-    ghost block_of = { λ d. listed d.blocks.items };
+    ghost block_of = { listed };
 
     fn block(&mut self, lap: u64, index: u64) -> Block {
         if lap == 0 && index < self.blocks.len() as u64 {

@@ -1,4 +1,5 @@
-//! Types of the gaming device, what its history means, and the traits of what is outside of it.
+//! Types of the gaming device, what its history means, and the traits of what is outside of it. docs/DEFINITIONS.md is the
+//! way into `specs/`.
 #![tactic(auto)]
 
 mod draws;
@@ -12,6 +13,8 @@ mod sink;
 mod source;
 mod step;
 mod tables;
+#[cfg(test)]
+mod tests;
 mod text;
 
 pub use draws::{Draws, ListDraws};
@@ -20,8 +23,8 @@ pub use event::{
 };
 pub use machine_core::{Core, MOST_ENTRIES, PAYLOAD_LEN};
 pub use play::{
-    BillRecord, Block, Choices, EventRecord, Handpay, Order, OrderKind, PlayRecord, Rank, Stage,
-    StageOpen, VoucherRecord,
+    BILLS_KEPT, BillRecord, Block, Choices, EVENTS_KEPT, EventRecord, Handpay, Order, OrderKind,
+    PLAYS_KEPT, PlayRecord, Rank, Stage, StageOpen, VOUCHERS_KEPT, VoucherRecord,
 };
 pub use setup::Setup;
 pub use sink::{MemorySink, Sink, Writing};

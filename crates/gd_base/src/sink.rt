@@ -1,5 +1,5 @@
 //! Where bytes are written to.
-ghost use Rattle.std.specs.Prelude.{◌≡◌, ◌≤◌, ◌+◌, ℕ, List, [], Some, length, IfOk, take, IsOk, ◌↔◌};
+ghost use Rattle.std.specs.Prelude.{◌≡◌, ◌≤◌, ◌+◌, ◌-◌, ◌++◌, ℕ, List, [], Some, length, IfOk, OnOk, take, IsOk, ◌↔◌};
 ghost use Rattle.std.specs.declared.option.Option.{Option};
 ghost use Rattle.std.specs.Io.KnownBytes.{Appends};
 ghost use Rattle.gd_base.specs.Causes.{HasCause, GivesFront};
@@ -31,9 +31,10 @@ pub struct Writing<W> {
 }
 
 impl<W: Write> Writing<W> {
+    /// This writer, after what it has taken, with no fault yet.
     pub fn new(inner: W) -> Self
-        ensures inner { result.inner ≡ inner }
-        ensures faults { result.faults ≡ 0 }
+        ensures taken { ⟦<Writing<W> as Sink>⟧.taken result ≡ W.contents inner }
+        ensures faults { ⟦<Writing<W> as Sink>⟧.faults result ≡ 0 }
     {
         Writing { inner, faults: 0 }
     }
@@ -119,8 +120,10 @@ impl Sink for MemorySink {
     fn give(&mut self, bytes: &[u8]) -> Result<(), Failed>
         ensures bytes { GivesFront (Some self.old.taken) (Some self.new.taken) result bytes.now }
         ensures cause { HasCause self.old.faults self.new.faults result }
-        // It fails exactly where the bytes don't fit.
+        // It fails exactly where the bytes don't fit, takes those that do, and counts no other fault.
         ensures fits { IsOk result ↔ (length self.old.taken + length bytes.now ≤ self.old.room) }
+        ensures taken { self.new.taken ≡ self.old.taken ++ take (self.old.room - length self.old.taken) bytes.now }
+        ensures calm { OnOk result (self.new.faults ≡ self.old.faults) }
         ensures room { self.new.room ≡ self.old.room }
     {
         let count = bytes.len().min(self.room - self.bytes.len());

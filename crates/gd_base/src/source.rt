@@ -1,14 +1,15 @@
 //! A stream of bytes that may fail.
-ghost use Rattle.std.specs.Prelude.{◌≡◌, ◌≤◌, ◌<◌, ◌++◌, ◌↔◌, ℕ, List, [], Some, length, take, drop, IsErr};
+ghost use Rattle.std.specs.Prelude.{◌≡◌, ◌≤◌, ◌<◌, ◌-◌, ◌++◌, ◌↔◌, ℕ, List, [], Some, length, min, take, drop, IsErr, OnOk, IfOk};
 ghost use Rattle.std.specs.declared.option.Option.{Option};
 ghost use Rattle.std.specs.Io.{ReadsAtMost};
 ghost use Rattle.std.specs.Io.KnownBytes.{ReadConsumes};
 ghost use Rattle.gd_base.specs.Causes.{HasCause};
+ghost use Rattle.gd_base.specs.Outside.{call_more};
 
 use std::io::Read;
 use std::marker::Model;
 
-/// The thing outside failed.
+/// The thing outside failed. It comes only where its count of faults rose in that call, or stands at 2^64 - 1.
 #[derive(Clone, Copy, Debug, PartialEq, Eq)]
 pub struct Failed;
 
@@ -20,7 +21,8 @@ pub trait Source {
     /// How often it has failed, up to 2^64 - 1.
     ghost faults: { Self → ℕ };
 
-    /// Moves the next bytes into the front of `into`. `Ok(0)` with room is the end.
+    /// Moves the next bytes into the front of `into`, at most as many as it has room for, and answers their number.
+    /// `Ok(0)` with room is the end. At a failure no byte is lost.
     fn take(&mut self, into: &mut [u8]) -> Result<usize, Failed>
         ensures bound { ReadsAtMost result into.new }
         ensures bytes { ReadConsumes (left self.old) (left self.new) result into.new }
@@ -35,9 +37,10 @@ pub struct Reading<R> {
 }
 
 impl<R: Read> Reading<R> {
+    /// This reader, from where it stands, with no fault yet.
     pub fn new(inner: R) -> Self
-        ensures inner { result.inner ≡ inner }
-        ensures faults { result.faults ≡ 0 }
+        ensures left { ⟦<Reading<R> as Source>⟧.left result ≡ R.remaining inner }
+        ensures faults { ⟦<Reading<R> as Source>⟧.faults result ≡ 0 }
     {
         Reading { inner, faults: 0 }
     }
@@ -59,7 +62,7 @@ impl<R: Read> Source for Reading<R> {
     }
 }
 
-/// Bytes in memory, which fail at one call or at none.
+/// Bytes in memory, which fail at one call or at none. Each other call fills the whole room, or as much as bytes are left.
 #[derive(Drop)]
 pub struct MemorySource {
     bytes: Vec<u8>,
@@ -104,8 +107,11 @@ impl Source for MemorySource {
         ensures bound { ReadsAtMost result into.new }
         ensures bytes { ReadConsumes (Some self.old.left) (Some self.new.left) result into.new }
         ensures cause { HasCause self.old.faults self.new.faults result }
-        // It fails at that one call.
+        // It fails at that one call, and counts no fault at another.
         ensures fails { IsErr result ↔ (self.old.until ≡ Some 1) }
+        ensures until { self.new.until ≡ call_more self.old.until }
+        ensures calm { OnOk result (self.new.faults ≡ self.old.faults) }
+        ensures count { IfOk result (λ n. n ≡ min (length into.new) (length self.old.left)) }
     {
         match self.until {
             Some(1) => {
@@ -123,7 +129,7 @@ impl Source for MemorySource {
 /// Copies the bytes from `at` on, as many as there is room for, and moves `at` behind them.
 fn copy_front(bytes: &Vec<u8>, at: &mut usize, into: &mut [u8]) -> usize
     requires { at.old ≤ length bytes.now.items }
-    ensures count { result ≤ length into.new }
+    ensures count { result ≡ min (length into.new) (length bytes.now.items - at.old) }
     ensures within { at.new ≤ length bytes.now.items }
     ensures bytes { drop at.old bytes.now.items ≡ take result into.new ++ drop at.new bytes.now.items }
     ensures end { result ≡ 0 → 0 < length into.new → drop at.new bytes.now.items ≡ [] }

@@ -7,5 +7,4 @@ pub fn computed()
     ensures words { LeastWords }
     ensures windows { Windows }
     ensures hands { Hands }
-{
-}
+{}

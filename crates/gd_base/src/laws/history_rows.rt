@@ -14,5 +14,4 @@ pub fn computed()
     ensures gambles { Gambles }
     ensures evening { Evening }
     ensures cancelled { CancelledCredit }
-{
-}
+{}

@@ -6,5 +6,4 @@ ghost use Rattle.gd_base.specs.PayloadRows.{Lengths, ArePossible};
 pub fn computed()
     ensures lengths { Lengths }
     ensures possible { ArePossible }
-{
-}
+{}

@@ -1,4 +1,4 @@
-use Rattle.gd_base.proofs.TextRows.{states, orders, recalls}
+use Rattle.gd_base.proofs.TextRows.{meters, states, orders, recalls, logs}
 use Rattle.gd_base.proofs.laws.text_rows.computed.Goals as goal
 
 pub returns-clause-states : goal.returns-clause-states
@@ -9,3 +9,9 @@ returns-clause-orders c = orders
 
 pub returns-clause-recalls : goal.returns-clause-recalls
 returns-clause-recalls c = recalls
+
+pub returns-clause-meters : goal.returns-clause-meters
+returns-clause-meters c = meters
+
+pub returns-clause-logs : goal.returns-clause-logs
+returns-clause-logs c = logs

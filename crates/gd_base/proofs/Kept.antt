@@ -1,0 +1,96 @@
+-- Rules of a view that the next entry keeps, together.
+use Rattle.std.proofs.Common.{◌≡◌, ◌≤◌, ◌==◌, ◌+◌, ◌&&◌, ℕ, Bool, true, nat_le, List, [], ◌∷◌, length, map, refl, ap, arith}
+use Rattle.std.proofs.lemmas.Bool.Decides.{nat_tests}
+use Rattle.gd_base.specs.Entry.{Entry}
+use Rattle.gd_base.specs.Kept.{kept_rules, KeepsRules}
+use Rattle.gd_base.specs.Spelling.{view_rules, all_true, fall_from, play_limit, are_places}
+use Rattle.gd_base.specs.View.{View}
+use Rattle.gd_base.specs.ViewOf.{with_entry}
+use Rattle.gd_base.proofs.KeptBooks.{books_kept}
+use Rattle.gd_base.proofs.KeptCounts.{counts_kept}
+use Rattle.gd_base.proofs.KeptHandpay.{handpay_kept}
+use Rattle.gd_base.proofs.KeptOrder.{order_kept}
+use Rattle.gd_base.proofs.KeptPlaces.{events_fall, bills_fall, vouchers_fall}
+use Rattle.gd_base.proofs.KeptRules.{count_kept, orders_kept, devices_kept, lists_short}
+use Rattle.gd_base.proofs.Rules.{AllTrue, all_told, all_hold, both}
+
+test_of : (m n : ℕ) → m ≡ n → (m == n) ≡ true
+test_of m n h = grind (arith, nat_tests, h)
+
+is_so : (m n : ℕ) → (m == n) ≡ true → m ≡ n
+is_so m n h = grind (arith, nat_tests, h)
+
+test_le : (m n : ℕ) → m ≤ n → nat_le m n ≡ true
+test_le m n h = grind (arith, nat_tests, h)
+
+at_most : (m n : ℕ) → nat_le m n ≡ true → m ≤ n
+at_most m n h = grind (arith, nat_tests, h)
+
+-- places of events, bills and vouchers
+abbrev Places : View → Type 0
+Places v =
+    (fall_from (v.count + 1) (map (λ e. e.place) v.events) ≡ true) × (fall_from (v.count + 1) (map (λ b. b.place) v.bills) ≡ true)
+    × (fall_from (v.count + 1) (map (λ r. r.place) v.vouchers) ≡ true)
+
+places_of : (v : View) → are_places v ≡ true → Places v
+places_of v h =
+    let plays = fall_from (play_limit v v.play) (map (λ p. p.place) v.plays) in
+    let events = fall_from (v.count + 1) (map (λ e. e.place) v.events) in
+    let bills = fall_from (v.count + 1) (map (λ b. b.place) v.bills) in
+    let vouchers = fall_from (v.count + 1) (map (λ r. r.place) v.vouchers) in
+    let t = both (plays && events && bills) vouchers h in
+    let u = both (plays && events) bills t.0 in
+    ((both plays events u.0).1, u.1, t.1)
+
+pub keeps_rules : KeepsRules
+keeps_rules setup digest spelled blocks lap v e h k next =
+    let t = all_told (view_rules v) h in
+    let w = with_entry setup v e in
+    let r = t.1.1.1.1.1.1 in
+    let s = r.1.1.1.1.1 in
+    let judged = ap (λ (x : Entry). x.reply) next.made in
+    let places = places_of v s.0 in
+    let order = order_kept setup v e judged (s.1.1.0, s.1.1.1.0) in
+    all_hold (kept_rules w) (
+      t.0,
+      (
+        t.1.0,
+        (
+          refl,
+          (
+            refl,
+            (
+              refl,
+              (
+                refl,
+                (
+                  count_kept setup v e next.room,
+                  (
+                    devices_kept setup v e (is_so (length v.kept) 9 t.1.1.1.1.1.0) r.1.0,
+                    (
+                      test_of _ _ (books_kept setup digest spelled blocks lap v e h k next),
+                      (
+                        counts_kept setup v e (is_so (length v.totals) 16 t.1.1.0) r.1.1.1.0,
+                        (
+                          test_le _ _ (orders_kept setup v e (at_most v.orders v.count r.1.1.1.1.0)),
+                          (
+                            events_fall setup v e places.0,
+                            (
+                              bills_fall setup v e places.1,
+                              (
+                                vouchers_fall setup v e places.2,
+                                (lists_short setup v e, (order.0, (order.1, (handpay_kept setup v e judged s.1.1.1.1.0, tt)))),
+                              ),
+                            ),
+                          ),
+                        ),
+                      ),
+                    ),
+                  ),
+                ),
+              ),
+            ),
+          ),
+        ),
+      ),
+    )

@@ -1,0 +1,5 @@
+use Rattle.gd_base.proofs.Exact.{exactly}
+use Rattle.gd_base.proofs.laws.answers.exact.Goals as goal
+
+pub returns : goal.returns
+returns g c = exactly

@@ -1,0 +1,5 @@
+use Rattle.gd_base.proofs.Kept.{keeps_rules}
+use Rattle.gd_base.proofs.laws.rules.kept.Goals as goal
+
+pub returns : goal.returns
+returns c = keeps_rules

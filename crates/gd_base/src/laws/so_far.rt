@@ -1,0 +1,15 @@
+//! The machine while it is being built.
+
+ghost use Rattle.std.specs.Prelude.{◌≡◌, List, ◌∷◌};
+ghost use Rattle.gd_base.specs.declared.setup.Setup.{Setup};
+ghost use Rattle.gd_base.specs.Entry.{Entry};
+ghost use Rattle.gd_base.specs.Legal.{view_over};
+ghost use Rattle.gd_base.specs.SoFar.{machine_so_far, without_recall};
+ghost use Rattle.gd_base.specs.View.{View};
+ghost use Rattle.gd_base.specs.ViewOf.{view_after, from_view};
+
+/// Its view is that of the whole history by sums, without recall.
+pub fn whole_history()
+    ensures { (setup : Setup) (v : View) (e : Entry) (past : List Entry)
+        → view_over (machine_so_far setup) v (e ∷ past) ≡ without_recall (view_after (from_view setup v) (e ∷ past)) }
+{}
