@@ -1,3 +1,8 @@
 mod Head
 mod OneEntry
 mod Spelling
+pub mod Joins
+pub mod Equations
+pub mod Legal
+mod Examples
+mod Rows

@@ -1,1 +1,9 @@
 pub mod Books
+pub mod State
+pub mod Lines
+pub mod Offers
+pub mod Openings
+pub mod Items
+pub mod Life
+pub mod Legal
+pub mod Toy
