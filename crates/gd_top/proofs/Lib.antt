@@ -6,3 +6,6 @@ pub mod Equations
 pub mod Legal
 mod Examples
 mod Rows
+pub mod Carried
+pub mod Events
+pub mod Opening

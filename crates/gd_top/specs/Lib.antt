@@ -7,3 +7,5 @@ pub mod Items
 pub mod Life
 pub mod Legal
 pub mod Toy
+pub mod Carrying
+pub mod Answered

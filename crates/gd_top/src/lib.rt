@@ -12,6 +12,7 @@ mod promise;
 mod recording;
 mod showing;
 mod status;
+mod step;
 
 pub use promise::one_legal_history;
 pub use status::Status;
