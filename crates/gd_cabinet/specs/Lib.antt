@@ -1,0 +1,5 @@
+pub mod Answered
+pub mod Opened
+pub mod Opening
+pub mod Shown
+pub mod Words
