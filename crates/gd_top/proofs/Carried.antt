@@ -144,3 +144,18 @@ module _ {V : Type 0} where
   -- a script fault
   pub stopped_here : (tell : State V → Told V) (v : V) (l p : ℕ) (taken : Option (List ℕ)) → ((x : Unseen V) → tell (at v l p x) ≡ ends Stops [] (at v l p x)) → Carries tell Stops v v l l p taken taken
   stopped_here tell v l p taken e = record { report = []; printed = Appends-nil taken; moves = stays; tells = λ x whole. e x }
+
+  -- told alike in the states that come
+  pub as_at : (r : Step) (f g : State V → Told V) (a b : V) (l m p : ℕ) (taken given : Option (List ℕ)) → ((x : Unseen V) → g (at a l p x) ≡ f (at a l p x))
+      → CarriesBy r f a b l m p taken given → CarriesBy r g a b l m p taken given
+  as_at Step.Goes f g a b l m p taken given e h = record { report = h.report; printed = h.printed; moves = h.moves; tells = λ x whole. e x ∙ h.tells x whole }
+  as_at Step.Stops f g a b l m p taken given e h = record { report = h.report; printed = h.printed; moves = h.moves; tells = λ x whole. e x ∙ h.tells x whole }
+  as_at Step.DiskFault f g a b l m p taken given e h = record {
+    report = h.report; printed = h.printed; made = h.made;
+    tells = λ x broken. let t = h.tells x broken in (t.0, e x ∙ t.1, t.2);
+  }
+  as_at Step.WriteFault f g a b l m p taken given e h = record {
+    tells = λ x none.
+        let t = h.tells x none in
+        (subst (AppendsFront taken given) (ap (λ (t : Told V). t.report) (sym (e x))) t.0, ap (λ (t : Told V). t.state.view) (e x) ∙ t.1);
+  }

@@ -1,15 +1,19 @@
 -- What an event tells, by its answer.
-use Rattle.std.proofs.Common.{◌≡◌, ◌∙◌, ap, sym, refl, ℕ, ◌+◌, ◌≤◌, ◌==◌, Bool, true, false, List, [], ◌∷◌, arith, Option, Some}
+use Rattle.std.proofs.Common.{◌≡◌, ◌∙◌, ap, sym, refl, ℕ, ◌+◌, ◌≤◌, ◌<◌, ◌==◌, subst, inl, inr, Bool, true, false, List, [], ◌∷◌, arith, Option, Some}
 use Rattle.std.proofs.lemmas.Bool.Decides.{nat_tests}
 use Rattle.std.specs.Prelude.{codes}
 use Rattle.gd_base.specs.declared.event.Reply.{Reply}
 use Rattle.gd_base.specs.declared.step.Numbered.{Numbered}
 use Rattle.gd_base.specs.declared.step.Stepped.{Stepped}
-use Rattle.gd_base.specs.Answer.{answer, after_answer, entry_of}
+use Rattle.gd_base.specs.Answer.{answer, after_answer, entry_of, is_new}
+use Rattle.gd_base.specs.Causes.{Rose}
 use Rattle.gd_base.specs.Entry.{device_of}
 use Rattle.gd_base.specs.Legal.{draw_of}
 use Rattle.gd_base.specs.Machine.{Machine, Blocks}
-use Rattle.gd_top.specs.Answered.{answer_text, view_offered}
+use Rattle.gd_cabinet.specs.Answered.{offered, syncs_of}
+use Rattle.gd_disk.specs.Disk.{DiskState}
+use Rattle.gd_disk.specs.Runs.{CanMeet, CutOrFaultIn}
+use Rattle.gd_top.specs.Answered.{answer_text}
 use Rattle.gd_top.specs.Carrying.{Unseen, Moves, at, IsWhole}
 use Rattle.gd_base.proofs.Answer.{new_event}
 use Rattle.gd_top.specs.Lines.{answer_line}
@@ -57,7 +61,7 @@ module _ {V : Type 0} (M : Machine V) (B : Blocks) where
   -- an event tells the line of its answer, and leaves the view that it was offered to
   pub event_is_told : (v : V) (e : Numbered) (n p : ℕ) (x : Unseen V) → IsWhole x.broken_at (x.offers + (moves_by v e (answer M v e)).made)
       → event_told M B e (at v n p x)
-      ≡ told (answer_text e (answer M v e) (M.count (view_offered M B 0 v e))) (at (view_offered M B 0 v e) n p ((moves_by v e (answer M v e)).moved x))
+      ≡ told (answer_text e (answer M v e) (M.count (offered M B 0 v e))) (at (offered M B 0 v e) n p ((moves_by v e (answer M v e)).moved x))
   event_is_told v e n p x whole = event_by v e (answer M v e) refl n p x whole
 
   broken_now : (b : Option ℕ) (n : ℕ) → b ≡ Some n → is_broken b n ≡ true
@@ -71,3 +75,15 @@ module _ {V : Type 0} (M : Machine V) (B : Blocks) where
       let entry = entry_of M B 0 v e in
       answered_new M B (power_on M B) e s reply h
       ∙ ap (λ (b : Bool). let o : Offer V = unless_broken b 6 (counted 6 s) in recorded M (power_on M B) entry o.fate o.state) (broken_now x.broken_at (x.offers + 1) b)
+
+-- where a call failed, fewer syncs than those of the event were made: so it was a new one
+pub failed_is_new : (a : Stepped) (before now : ℕ) → now < before + syncs_of (is_new a) → before ≤ now → (reply : Reply) × (a ≡ Stepped.New reply)
+failed_is_new (Stepped.New reply) before now few more = (reply, refl)
+failed_is_new (Stepped.Again reply) before now few more = absurd (omega (arith, few, more))
+failed_is_new (Stepped.OutOfStep expected) before now few more = absurd (omega (arith, few, more))
+failed_is_new Stepped.HistoryFull before now few more = absurd (omega (arith, few, more))
+
+-- with no cut armed, a failure is a fault
+pub fault_alone : (syncs : ℕ) (old new : DiskState) → old.armed ≡ [] → CutOrFaultIn syncs old new → Rose old.faults new.faults
+fault_alone syncs old new none (inl cut) = absurd (subst (CanMeet syncs) none cut.0)
+fault_alone syncs old new none (inr fault) = fault.1

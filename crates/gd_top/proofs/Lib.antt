@@ -4,8 +4,13 @@ mod Spelling
 pub mod Joins
 pub mod Equations
 pub mod Legal
-mod Examples
-mod Rows
+pub mod Reading
+pub mod Pieces
+pub mod Grammar
 pub mod Carried
 pub mod Events
 pub mod Opening
+pub mod OneLine
+pub mod Exits
+mod Examples
+mod Rows

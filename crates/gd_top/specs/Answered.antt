@@ -1,11 +1,8 @@
--- What is printed of an answer, and the view that it leaves.
+-- What is printed of an answer.
 use Rattle.std.specs.Prelude.{ℕ, if◌then◌else◌, List, codes}
 use Rattle.gd_base.specs.declared.step.Numbered.{Numbered}
 use Rattle.gd_base.specs.declared.step.Stepped.{Stepped}
-use Rattle.gd_base.specs.Answer.{answer, after_answer}
 use Rattle.gd_base.specs.Entry.{device_of}
-use Rattle.gd_base.specs.Legal.{draw_of}
-use Rattle.gd_base.specs.Machine.{Machine, Blocks}
 use Rattle.gd_top.specs.Lines.{answer_line, step_line, full_line}
 
 -- the line of an answer, with the count of entries after it
@@ -14,7 +11,3 @@ answer_text e (Stepped.New reply) n = answer_line (codes "ack") (device_of e.eve
 answer_text e (Stepped.Again reply) n = answer_line (codes "again") (device_of e.event) e.number reply n
 answer_text e (Stepped.OutOfStep expected) n = step_line (device_of e.event) expected
 answer_text e Stepped.HistoryFull n = full_line (device_of e.event)
-
--- the view after an event was offered
-abbrev pub view_offered : {V : Type 0} → Machine V → Blocks → ℕ → V → Numbered → V
-view_offered M blocks lap v e = after_answer M v e (draw_of M blocks lap v e.event) (answer M v e)

@@ -2,7 +2,7 @@
 -- view, and how many lines and power-ons there were) and of what it doesn't keep.
 use Rattle.std.specs.Prelude.{◌≡◌, ℕ, ◌+◌, ◌≤◌, true, false, List, [], Option, None, Some}
 use Rattle.std.specs.Io.KnownBytes.{Appends}
-use Rattle.gd_base.specs.Causes.{AppendsFront, Rose}
+use Rattle.gd_base.specs.Causes.{AppendsFront}
 use Rattle.gd_base.specs.Entry.{Entry}
 use Rattle.gd_top.specs.Offers.{is_broken}
 use Rattle.gd_top.specs.declared.step.Step.{Step}
@@ -87,10 +87,3 @@ GivesText Step.Goes taken given text = Appends taken given text
 GivesText Step.Stops taken given text = ⊥
 GivesText Step.DiskFault taken given text = ⊥
 GivesText Step.WriteFault taken given text = AppendsFront taken given text
-
--- each fault only where its count rose, and no count falls
-pub record HasCauses (result : Step) (disk disk_now output output_now : ℕ) : Type 0 where
-  pub broken : result ≡ Step.DiskFault → Rose disk disk_now
-  pub unwritten : result ≡ Step.WriteFault → Rose output output_now
-  pub disk_later : disk ≤ disk_now
-  pub output_later : output ≤ output_now

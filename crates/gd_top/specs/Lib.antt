@@ -9,3 +9,9 @@ pub mod Legal
 pub mod Toy
 pub mod Carrying
 pub mod Answered
+pub mod Running
+pub mod Served
+pub mod LinesDone
+pub mod Grammar
+pub mod Script
+pub mod Reads
