@@ -1,0 +1,10 @@
+pub mod Boots
+pub mod Commit
+pub mod CopyMoments
+pub mod Images
+pub mod Openings
+pub mod Pages
+pub mod Parts
+pub mod RepairMoments
+pub mod Assembled
+pub mod Sealed

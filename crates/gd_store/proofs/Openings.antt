@@ -1,0 +1,53 @@
+-- What each moment of an opening leaves.
+use Rattle.std.proofs.Common.{◌≡◌, ◌∙◌, sym, ap, subst, inr, ⊎_elim, false, arith, ◌+◌, length, true, List, ℕ, Option, Some, None}
+use Rattle.gd_disk.specs.Disk.{DiskState, Stands, IfTold, IsSynced, Rose}
+use Rattle.gd_disk.specs.Runs.{LeavesOnly, CutsLeft, CutOrFaultIn}
+use Rattle.gd_disk.proofs.Runs.{and_then, at_end, weaker}
+use Rattle.gd_disk.proofs.Cuts.{no_call, failed_then}
+use Rattle.gd_store.proofs.Boots.{told_maps}
+use Rattle.gd_store.specs.Booting.{IsFound}
+use Rattle.gd_store.specs.Copy.{found_in}
+use Rattle.gd_store.specs.Opening.{repairs_of}
+use Rattle.gd_store.specs.Repair.{repaired, syncs_of_repair}
+use Rattle.gd_store.specs.declared.found.Found.{Found}
+use Rattle.gd_store.specs.Copy.{boots}
+use Rattle.gd_store.specs.Opened.{IsOpenable}
+use Rattle.gd_store.specs.Writing.{From, KeepsBoot}
+use Rattle.gd_store.specs.declared.layout.Layout.{Layout}
+
+-- reads, and then what keeps the boot of each image
+pub kept_boot : (l : Layout) (old mid new : DiskState) → LeavesOnly old mid (From old Stands) → LeavesOnly mid new (KeepsBoot l mid) → LeavesOnly old new (KeepsBoot l old)
+kept_boot l old mid new first second =
+    and_then old mid new _ _ _ first second (λ c from. (from.0, from.1, ap (boots l) from.2)) (λ c keeps.
+    let back = at_end old mid _ first keeps.0 keeps.1 in
+    (back.0, back.1, keeps.2 ∙ ap (boots l) back.2))
+
+-- reads alone
+pub reads_keep_boot : (l : Layout) (old new : DiskState) → LeavesOnly old new (From old Stands) → LeavesOnly old new (KeepsBoot l old)
+reads_keep_boot l old new run = weaker old new _ _ run (λ c from. (from.0, from.1, ap (boots l) from.2))
+
+-- after reads of a disk that may be opened nothing waits for a sync
+pub still_synced : (old new : DiskState) → IsOpenable old → old.is_on ≡ true → LeavesOnly old new (From old Stands) → new.seen ≡ old.seen → IsSynced new
+still_synced old new openable on run seen c may =
+    let back = at_end old new _ run c may in
+    ⊎_elim (λ off. absurd (clash (sym on ∙ off))) (λ synced. seen ∙ synced back.0 back.1 ∙ ap Some (sym back.2)) openable
+  where
+    clash : true ≡ false → ⊥
+    clash e = cc
+
+-- of each image that is told
+pub told_all : (seen : Option (List ℕ)) (P : List ℕ → Type 0) → ((c : List ℕ) → P c) → IfTold seen P
+told_all None P all = tt
+told_all (Some c) P all = all c
+
+-- a read that failed is a fault, under any number
+pub read_failed : (l : Layout) (old new : DiskState) → new.armed ≡ old.armed → (old.is_on ≡ true → Rose old.faults new.faults) → IfTold old.seen (λ image. old.is_on ≡ true → CutOrFaultIn (repairs_of l image) old new)
+read_failed l old new armed fault = told_all old.seen _ (λ image on. inr (ap length armed, fault on))
+
+-- reads, and then a repair that failed
+pub repair_failed : (l : Layout) (found : Found) (n : ℕ) (p : List ℕ) (old mid new : DiskState) → IfTold old.seen (λ image. IsFound l found image × (boots l image ≡ Some (n, p))) → mid.armed ≡ old.armed → mid.faults ≡ old.faults → CutOrFaultIn (syncs_of_repair (repaired found)) mid new → IfTold old.seen (λ image. old.is_on ≡ true → CutOrFaultIn (repairs_of l image) old new)
+repair_failed l found n p old mid new told armed faults cause = told_maps old.seen _ _ (λ image seen is on.
+    let same : found ≡ found_in l image = λ i. record { a = is.0.0 i; b = is.0.1 i } in
+    let none : CutsLeft 0 old.armed mid.armed = subst (λ a. CutsLeft 0 old.armed a) (sym armed) (no_call old.armed) in
+    let all : CutOrFaultIn (0 + syncs_of_repair (repaired found)) old new = failed_then 0 (syncs_of_repair (repaired found)) old mid new none faults cause in
+    subst (λ (f : Found). CutOrFaultIn (syncs_of_repair (repaired f)) old new) same (subst (λ (k : ℕ). CutOrFaultIn k old new) (omega arith) all)) told

@@ -1,0 +1,91 @@
+-- A sealed copy is sound, and spells its payload.
+use Rattle.std.proofs.Common.{◌≡◌, ◌≢◌, ◌⊎◌, inl, inr, ⊎_elim, ℕ, zero, suc, ◌+◌, ◌*◌, ◌-◌, ◌^◌, ◌<◌, ◌≤◌, List, [], ◌∷◌, ◌++◌, length, get_or, take, drop, refl, sym, ◌∙◌, ap, subst, arith, Bool, true, false, Option, Some, None, append_assoc, length-append, if◌then◌else◌, ◌==◌, nat_eq}
+use Rattle.std.proofs.lemmas.Bool.Decides.{nat_tests}
+use Rattle.std.proofs.lemmas.Bool.{cases_eq}
+use Rattle.std.proofs.lemmas.Nat.{from_be_bytes-to_be_bytes_8}
+use Rattle.std.specs.Int.{w16, w64, to_be_bytes, from_be_bytes}
+use Rattle.std.specs.Str.{bytes_eq}
+use Rattle.std.proofs.lemmas.List.{take_at}
+use Rattle.sha2.specs.Sha256.{sha256}
+use Rattle.sha2.proofs.Facts256.{length-sha256}
+use Rattle.std.proofs.lemmas.Slice.Eq.{bytes_eq-Decides}
+use Rattle.std.specs.Bool.{Decides}
+use Rattle.gd_store.specs.Copy.{part, copy_len, header_start, page, digests, head_of, sealed, body_of, state_of, pages_state, page_matches, lowest_bad, stored_sequence, stored_head, stored_seal, stored_payload, stored_digest}
+use Rattle.gd_store.proofs.Parts.{part_front, part_part, part_last, part_middle, length-copy, part_start, part_number, part_head, part_digs, part_seal, part_payload}
+use Rattle.gd_store.specs.declared.layout.Layout.{Layout}
+use Rattle.gd_store.specs.declared.copy.Why.{Why}
+use Rattle.gd_store.specs.declared.copy.Why.TheVariants.{Shut, BadHeader, BadRoot, BadPage}
+use Rattle.gd_store.specs.declared.copy.CopyState.{CopyState}
+use Rattle.gd_store.specs.declared.copy.CopyState.TheVariants.{Sound, Bad}
+
+pub length-digests : (n : ℕ) (payload : List ℕ) → length (digests n payload) ≡ 32 * n
+unfolding digests
+length-digests zero payload = refl
+length-digests (suc n) payload = omega (arith, length-append (digests n payload) (sha256 (page n payload)), length-digests n payload, length-sha256 (page n payload))
+
+pub length-start : (l : Layout) → length (header_start l) ≡ 8
+unfolding header_start
+length-start l = refl
+
+pub same_bytes : (xs ys : List ℕ) → xs ≡ ys → bytes_eq xs ys ≡ true
+same_bytes xs ys same = (bytes_eq-Decides xs ys).1 same
+
+-- the digest of page i among those of n pages
+digest_at : (n i : ℕ) (payload : List ℕ) → i < n → part (32 * i) 32 (digests n payload) ≡ sha256 (page i payload)
+unfolding digests
+digest_at zero i payload lt = absurd (omega arith)
+digest_at (suc n) i payload lt = elim (cases_eq i n) [
+  | inl same ↦ subst (λ (k : ℕ). part (32 * k) 32 (digests n payload ++ sha256 (page n payload)) ≡ sha256 (page k payload)) (sym same) (part_last (digests n payload) (sha256 (page n payload)) (32 * n) 32 (length-digests n payload) (length-sha256 (page n payload)))
+  | inr other ↦
+      let lower : i < n = omega (arith, lt, other) in
+      let long = length-digests n payload in
+      part_front (digests n payload) (sha256 (page n payload)) (32 * i) 32 (omega (arith, long, lower)) ∙ digest_at n i payload lower
+]
+
+module _ (l : Layout) (sequence : ℕ) (payload : List ℕ) (range : sequence < 2 ^ 64) (long : length payload ≡ 512 * l.pages) where
+  abbrev digs : List ℕ
+  digs = digests l.pages payload
+
+  abbrev seal : List ℕ
+  seal = sha256 (header_start l ++ to_be_bytes w64 sequence ++ digests l.pages payload)
+
+  pub length-sealed : length (sealed l sequence payload) ≡ copy_len l.pages
+  unfolding sealed body_of head_of
+  length-sealed = length-copy (header_start l) (to_be_bytes w64 sequence) digs seal payload l.pages (length-start l) refl (length-digests l.pages payload) (length-sha256 _) long
+
+  pub sealed_payload : stored_payload l (sealed l sequence payload) ≡ payload
+  unfolding sealed body_of head_of stored_payload
+  sealed_payload = part_payload (header_start l) (to_be_bytes w64 sequence) digs seal payload l.pages (length-start l) refl (length-digests l.pages payload) (length-sha256 _) long
+
+  kept : (i : ℕ) → i < l.pages → part (17 + 32 * i) 32 (sealed l sequence payload) ≡ sha256 (page i payload)
+  unfolding sealed body_of head_of
+  kept i lt = sym (part_part 17 (32 * l.pages) (32 * i) 32 _ (omega arith)) ∙ ap (λ (x : List ℕ). part (32 * i) 32 x) (part_digs (header_start l) (to_be_bytes w64 sequence) digs seal payload l.pages (length-start l) refl (length-digests l.pages payload) (length-sha256 _) long) ∙ digest_at l.pages i payload lt
+
+  page_ok : (i : ℕ) → i < l.pages → page_matches l (sealed l sequence payload) i ≡ true
+  unfolding page_matches stored_digest
+  page_ok i lt = same_bytes _ _ (ap (λ (x : List ℕ). sha256 (page i x)) sealed_payload ∙ sym (kept i lt))
+
+  none_bad : (i n : ℕ) → i + n ≤ l.pages → lowest_bad l (sealed l sequence payload) i n ≡ None
+  unfolding lowest_bad
+  none_bad i zero le = refl
+  none_bad i (suc n) le = rw (page_ok i (omega (arith, le))) (none_bad (i + 1) n (omega (arith, le)))
+
+  gate_open : nat_eq (get_or (sealed l sequence payload) 0 0) 0xA5 ≡ true
+  unfolding sealed
+  gate_open = refl
+
+  start_same : bytes_eq (part 1 8 (sealed l sequence payload)) (header_start l) ≡ true
+  unfolding sealed body_of head_of
+  start_same = same_bytes _ _ (part_start (header_start l) (to_be_bytes w64 sequence) digs seal payload l.pages (length-start l) refl (length-digests l.pages payload) (length-sha256 _) long)
+
+  seal_same : bytes_eq (sha256 (stored_head l (sealed l sequence payload))) (stored_seal l (sealed l sequence payload)) ≡ true
+  unfolding sealed body_of head_of stored_head stored_seal
+  seal_same = same_bytes _ _ (ap sha256 (part_head (header_start l) (to_be_bytes w64 sequence) digs seal payload l.pages (length-start l) refl (length-digests l.pages payload) (length-sha256 _) long) ∙ sym (part_seal (header_start l) (to_be_bytes w64 sequence) digs seal payload l.pages (length-start l) refl (length-digests l.pages payload) (length-sha256 _) long))
+
+  number_same : stored_sequence (sealed l sequence payload) ≡ sequence
+  unfolding sealed body_of head_of stored_sequence
+  number_same = ap (λ (x : List ℕ). from_be_bytes w64 x) (part_number (header_start l) (to_be_bytes w64 sequence) digs seal payload l.pages (length-start l) refl (length-digests l.pages payload) (length-sha256 _) long) ∙ from_be_bytes-to_be_bytes_8 sequence range
+
+  pub sealed_sound : state_of l (sealed l sequence payload) ≡ Sound sequence
+  unfolding state_of
+  sealed_sound = rw (gate_open, start_same, seal_same, none_bad 0 l.pages (omega arith), number_same)

@@ -1,0 +1,11 @@
+pub mod Booting
+pub mod Choice
+pub mod Copy
+pub mod Lending
+pub mod Making
+pub mod Opened
+pub mod Opening
+pub mod Repair
+pub mod Store
+pub mod Words
+pub mod Writing

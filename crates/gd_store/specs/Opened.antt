@@ -1,0 +1,37 @@
+-- What the opening of a store answers.
+use Rattle.std.specs.Prelude.{◌≡◌, ◌⊎◌, ℕ, Bool, true, false, List, Result, Ok, Err, Option, Some, None}
+use Rattle.gd_disk.specs.Disk.{DiskState, IsSynced}
+use Rattle.gd_store.specs.declared.found.Found.{Found}
+use Rattle.gd_store.specs.declared.room.Room.{Room}
+use Rattle.gd_store.specs.declared.store.Store.{Store}
+use Rattle.gd_store.specs.declared.opening.Opened.{Opened}
+
+-- off, or with nothing that waits for a sync
+abbrev pub IsOpenable : DiskState → Type 0
+IsOpenable disk = (disk.is_on ≡ false) ⊎ IsSynced disk
+
+abbrev pub disk_in : {D : Type 0} {g : _} → Opened D g → D
+disk_in (Opened.Ready store found) = store.disk
+disk_in (Opened.Lost found disk room) = disk
+disk_in (Opened.Off disk room) = disk
+
+abbrev pub room_in : {D : Type 0} {g : _} → Opened D g → Room
+room_in (Opened.Ready store found) = store.room
+room_in (Opened.Lost found disk room) = room
+room_in (Opened.Off disk room) = room
+
+-- Off is a failure
+abbrev pub outcome : {D : Type 0} {g : _} → Opened D g → Result (Unit {0}) (Unit {0})
+outcome (Opened.Ready store found) = Ok tt
+outcome (Opened.Lost found disk room) = Ok tt
+outcome (Opened.Off disk room) = Err tt
+
+abbrev pub OnReady : {D : Type 0} {g : _} → Opened D g → (Store D g → Found → Type 0) → Type 0
+OnReady (Opened.Ready store found) P = P store found
+OnReady (Opened.Lost found disk room) P = Unit {0}
+OnReady (Opened.Off disk room) P = Unit {0}
+
+abbrev pub OnLost : {D : Type 0} {g : _} → Opened D g → (Found → Type 0) → Type 0
+OnLost (Opened.Ready store found) P = Unit {0}
+OnLost (Opened.Lost found disk room) P = P found
+OnLost (Opened.Off disk room) P = Unit {0}

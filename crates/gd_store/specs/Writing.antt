@@ -1,0 +1,37 @@
+-- What the writing of one copy leaves.
+use Rattle.std.specs.Prelude.{◌≡◌, ◌≢◌, ◌⊎◌, ℕ, ◌+◌, ◌<◌, ◌≤◌, List, [], ◌∷◌, length, take, drop, slice_index, Result, OnOk, OnErr, Option, if◌then◌else◌, ◌==◌}
+use Rattle.gd_store.specs.Copy.{part, boots}
+use Rattle.gd_store.specs.declared.layout.Layout.{Layout}
+use Rattle.gd_disk.specs.Disk.{seen_written, DiskState, Torn, Rose}
+
+-- the gate at this place isn't open
+abbrev pub IsShut : ℕ → List ℕ → Type 0
+IsShut at image = slice_index image at ≢ 0xA5
+
+-- what a read gives after a gate that held this byte is shut
+abbrev pub seen_shut : ℕ → ℕ → Option (List ℕ) → Option (List ℕ)
+seen_shut at gate seen = if gate == 0xA5 then seen_written at (0 ∷ []) seen else seen
+
+-- while a gate is shut: all else stands, and the gate is shut or all stands
+pub record IsShutting (at : ℕ) (old new : List ℕ) : Type 0 where
+  pub elsewhere : Torn at 1 old new
+  pub shut_or_same : IsShut at new ⊎ (new ≡ old)
+
+-- while a copy is written over an image: all else stands, and the copy is the old one, or it's shut, or it's the new one
+pub record IsWriting (at : ℕ) (copy old new : List ℕ) : Type 0 where
+  pub elsewhere : Torn at (length copy) old new
+  pub whole_or_shut : (part at (length copy) new ≡ part at (length copy) old) ⊎ (IsShut at new ⊎ (part at (length copy) new ≡ copy))
+
+-- an image that may be found before, after this step
+abbrev pub From : DiskState → (List ℕ → List ℕ → Type 0) → List ℕ → Type 0
+From disk step image = (d : List ℕ) × disk.may_find d × step d image
+
+-- how many syncs a run made: all of them where it succeeded, else fewer
+pub record MadeSyncs {T E : Type 0} (n : ℕ) (result : Result T E) (old new : DiskState) : Type 0 where
+  pub all : OnOk result (new.syncs ≡ old.syncs + n)
+  pub fewer : OnErr result (new.syncs < old.syncs + n)
+  pub no_less : old.syncs ≤ new.syncs
+
+-- an image that boots to what one that may be found before boots to
+abbrev pub KeepsBoot : Layout → DiskState → List ℕ → Type 0
+KeepsBoot l disk image = (d : List ℕ) × disk.may_find d × (boots l image ≡ boots l d)

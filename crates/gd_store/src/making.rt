@@ -1,0 +1,107 @@
+// The making of a memory.
+ghost use Rattle.std.specs.Prelude.{◌≡◌, ◌+◌, ◌*◌, ◌≤◌, length, OnOk};
+ghost use Rattle.gd_disk.specs.Disk.{IfTold, IsSynced, Answers};
+ghost use Rattle.gd_disk.specs.Runs.{CutsOfRun};
+ghost use Rattle.gd_store.specs.Copy.{HoldsBoth, LiesWithin, copy_len};
+ghost use Rattle.gd_store.specs.Words.{room_payload};
+ghost use Rattle.gd_store.specs.Writing.{MadeSyncs};
+ghost use Rattle.gd_store.specs.Making.{made_disk, made_room, made_outcome};
+
+use crate::sealing::seal_body;
+use crate::writing::{OPEN, SHUT, write_synced};
+use crate::{LAYOUT, Layout, Room, Store};
+use gd_disk::{DISK_LEN, Disk, Off};
+
+/// What the making of a memory answers.
+#[derive(Drop)]
+pub enum Made<D: Disk> {
+    /// Both copies hold the room's payload at sequence 0.
+    Done { disk: D, room: Room },
+    /// A call to the disk failed.
+    Off { disk: D, room: Room },
+}
+
+impl<D: Disk> Store<D> {
+    /// Writes the room's payload to both copies at sequence 0, whatever the disk has: shuts the gates that are open,
+    /// then writes and opens copy a, then copy b, by five syncs. The room keeps its payload.
+    pub fn make(disk: D, room: Room) -> Made<D>
+        requires size { (D.state disk).size ≡ DISK_LEN }
+        ensures done { OnOk (made_outcome result) (IfTold (D.state (made_disk result)).seen (HoldsBoth LAYOUT 0 (room_payload room))) }
+        ensures synced { OnOk (made_outcome result) (IsSynced (D.state (made_disk result))) }
+        ensures answer { Answers (made_outcome result) (D.state disk) (D.state (made_disk result)) }
+        ensures syncs { MadeSyncs 5 (made_outcome result) (D.state disk) (D.state (made_disk result)) }
+        ensures cuts { CutsOfRun 5 (made_outcome result) (D.state disk) (D.state (made_disk result)) }
+        ensures payload { room_payload (made_room result) ≡ room_payload room }
+    {
+        let mut disk = disk;
+        let mut room = room;
+        let parts = &mut room;
+        match make_both(&mut disk, LAYOUT, &parts.payload, &mut parts.a[1..]) {
+            Ok(()) => Made::Done { disk, room },
+            Err(Off) => Made::Off { disk, room },
+        }
+    }
+}
+
+// Writes a payload to both copies at sequence 0.
+fn make_both<D: Disk>(
+    disk: &mut D,
+    layout: Layout,
+    payload: &[u8],
+    body: &mut [u8],
+) -> Result<(), Off>
+    requires within { LiesWithin layout (D.state disk.old).size }
+    requires payload { length payload.now ≡ 512 * layout.pages }
+    requires body { length body.old + 1 ≡ copy_len layout.pages }
+    ensures holds { OnOk result (IfTold (D.state disk.new).seen (HoldsBoth layout 0 payload.now)) }
+    ensures synced { OnOk result (IsSynced (D.state disk.new)) }
+    ensures answer { Answers result (D.state disk.old) (D.state disk.new) }
+    ensures syncs { MadeSyncs 5 result (D.state disk.old) (D.state disk.new) }
+    ensures cuts { CutsOfRun 5 result (D.state disk.old) (D.state disk.new) }
+{
+    shut_both(disk, layout)?;
+    seal_body(layout, 0, payload, body);
+    write_synced(disk, layout.a + 1, body)?;
+    write_synced(disk, layout.a, &[OPEN])?;
+    write_synced(disk, layout.b + 1, body)?;
+    write_synced(disk, layout.b, &[OPEN])
+}
+
+// Shuts the gates that are open. The one sync is made all the same.
+fn shut_both<D: Disk>(disk: &mut D, layout: Layout) -> Result<(), Off>
+    requires within { LiesWithin layout (D.state disk.old).size }
+    ensures answer { Answers result (D.state disk.old) (D.state disk.new) }
+    ensures syncs { MadeSyncs 1 result (D.state disk.old) (D.state disk.new) }
+    ensures cuts { CutsOfRun 1 result (D.state disk.old) (D.state disk.new) }
+{
+    let gate_a = gate(disk, layout.a)?;
+    let gate_b = gate(disk, layout.b)?;
+    shut_open(disk, layout.a, gate_a)?;
+    shut_open(disk, layout.b, gate_b)?;
+    disk.sync()
+}
+
+// Reads a gate.
+fn gate<D: Disk>(disk: &mut D, at: u64) -> Result<u8, Off>
+    requires { at + 1 ≤ (D.state disk.old).size }
+    ensures answer { Answers result (D.state disk.old) (D.state disk.new) }
+    ensures syncs { (D.state disk.new).syncs ≡ (D.state disk.old).syncs }
+    ensures cuts { CutsOfRun 0 result (D.state disk.old) (D.state disk.new) }
+{
+    let mut byte = [SHUT];
+    disk.read(at, &mut byte)?;
+    Ok(byte[0])
+}
+
+// Writes over a gate that is open. No sync is made.
+fn shut_open<D: Disk>(disk: &mut D, at: u64, gate: u8) -> Result<(), Off>
+    requires { at + 1 ≤ (D.state disk.old).size }
+    ensures answer { Answers result (D.state disk.old) (D.state disk.new) }
+    ensures syncs { (D.state disk.new).syncs ≡ (D.state disk.old).syncs }
+    ensures cuts { CutsOfRun 0 result (D.state disk.old) (D.state disk.new) }
+{
+    if gate == OPEN {
+        return disk.write(at, &[SHUT]);
+    }
+    Ok(())
+}

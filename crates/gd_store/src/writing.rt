@@ -1,0 +1,63 @@
+// Writes to a disk, each kept by a sync of its own.
+ghost use Rattle.std.specs.Prelude.{◌≡◌, ◌≤◌, ◌+◌, ◌<◌, ◌-◌, ◌^◌, ◌∷◌, List, ℕ, length, take, drop, OnOk, OnErr, true, false, IsTrue, ◌↔◌, if◌then◌else◌, slice_index, []};
+ghost use Rattle.gd_disk.specs.Disk.{IfTold, seen_written, Torn, Stands, IsSynced, Answers};
+ghost use Rattle.gd_disk.specs.Runs.{LeavesOnly, CutsOfRun};
+ghost use Rattle.gd_store.specs.Writing.{seen_shut, IsShutting, IsShut, IsWriting, From, MadeSyncs};
+
+use gd_disk::{Disk, Off};
+
+/// Writes, and keeps it by a sync.
+pub(crate) fn write_synced<D: Disk>(disk: &mut D, at: u64, bytes: &[u8]) -> Result<(), Off>
+    requires { at + length bytes.now ≤ (D.state disk.old).size }
+    ensures seen { OnOk result ((D.state disk.new).seen ≡ seen_written at bytes.now (D.state disk.old).seen) }
+    ensures synced { OnOk result (IsSynced (D.state disk.new)) }
+    ensures any_moment { LeavesOnly (D.state disk.old) (D.state disk.new) (From (D.state disk.old) (Torn at (length bytes.now))) }
+    ensures answer { Answers result (D.state disk.old) (D.state disk.new) }
+    ensures syncs { MadeSyncs 1 result (D.state disk.old) (D.state disk.new) }
+    ensures cuts { CutsOfRun 1 result (D.state disk.old) (D.state disk.new) }
+{
+    disk.write(at, bytes)?;
+    disk.sync()
+}
+
+pub(crate) const OPEN: u8 = 0xA5;
+
+pub(crate) const SHUT: u8 = 0;
+
+/// Shuts a gate that is open. The sync is made all the same.
+fn shut<D: Disk>(disk: &mut D, at: u64, gate: u8) -> Result<(), Off>
+    requires within { at + 1 ≤ (D.state disk.old).size }
+    requires synced { IsSynced (D.state disk.old) }
+    requires gate { IfTold (D.state disk.old).seen (λ image. slice_index image at ≡ gate) }
+    ensures seen { OnOk result ((D.state disk.new).seen ≡ seen_shut at gate (D.state disk.old).seen) }
+    ensures shut { OnOk result (IfTold (D.state disk.new).seen (IsShut at)) }
+    ensures synced { OnOk result (IsSynced (D.state disk.new)) }
+    ensures any_moment { LeavesOnly (D.state disk.old) (D.state disk.new) (From (D.state disk.old) (IsShutting at)) }
+    ensures answer { Answers result (D.state disk.old) (D.state disk.new) }
+    ensures syncs { MadeSyncs 1 result (D.state disk.old) (D.state disk.new) }
+    ensures cuts { CutsOfRun 1 result (D.state disk.old) (D.state disk.new) }
+{
+    if gate == OPEN {
+        write_synced(disk, at, &[SHUT])
+    } else {
+        disk.sync()
+    }
+}
+
+/// Writes a copy over another: shuts its gate, writes its body, and opens the gate, each kept by a sync.
+pub(crate) fn write_copy<D: Disk>(disk: &mut D, at: u64, gate: u8, body: &[u8]) -> Result<(), Off>
+    requires within { at + 1 + length body.now ≤ (D.state disk.old).size }
+    requires bounded { (D.state disk.old).size < 2 ^ 64 }
+    requires synced { IsSynced (D.state disk.old) }
+    requires gate { IfTold (D.state disk.old).seen (λ image. slice_index image at ≡ gate) }
+    ensures seen { OnOk result ((D.state disk.new).seen ≡ seen_written at (OPEN ∷ body.now) (D.state disk.old).seen) }
+    ensures synced { OnOk result (IsSynced (D.state disk.new)) }
+    ensures any_moment { LeavesOnly (D.state disk.old) (D.state disk.new) (From (D.state disk.old) (IsWriting at (OPEN ∷ body.now))) }
+    ensures answer { Answers result (D.state disk.old) (D.state disk.new) }
+    ensures syncs { MadeSyncs 3 result (D.state disk.old) (D.state disk.new) }
+    ensures cuts { CutsOfRun 3 result (D.state disk.old) (D.state disk.new) }
+{
+    shut(disk, at, gate)?;
+    write_synced(disk, at + 1, body)?;
+    write_synced(disk, at, &[OPEN])
+}
