@@ -1,12 +1,12 @@
 -- The writing of a copy's digests and body into a buffer.
-use Rattle.std.proofs.Common.{◌≡◌, ℕ, zero, suc, ◌+◌, ◌*◌, ◌-◌, ◌<◌, ◌≤◌, List, [], ◌∷◌, ◌++◌, length, take, drop, refl, sym, ◌∙◌, ap, subst, arith, append_assoc, length-append, length-take, length-drop, slice_set}
-use Rattle.std.proofs.lemmas.List.{take_all, drop_all, append-nil, take_at, length-take-le}
+use Rattle.std.proofs.Common.{◌≡◌, ℕ, suc, ◌+◌, ◌*◌, ◌-◌, ◌≤◌, List, [], ◌∷◌, ◌++◌, length, take, drop, refl, sym, ◌∙◌, ap, subst, arith, length-append, length-take, length-drop, slice_set}
+use Rattle.std.proofs.lemmas.List.{take_all, drop_all, append-nil, take_at}
 use Rattle.std.proofs.lemmas.Slice.{take-put_mid, put_mid-paste}
 use borrow.Rule.Slice.PartMut.{put_mid}
 use Rattle.std.specs.Int.{w64, to_be_bytes}
 use Rattle.sha2.specs.Sha256.{sha256}
 use Rattle.sha2.proofs.Facts256.{length-sha256}
-use Rattle.gd_store.specs.Copy.{part, page, digests, header_start, head_of, body_of}
+use Rattle.gd_store.specs.Copy.{page, digests, header_start, head_of, body_of}
 use Rattle.gd_store.specs.declared.layout.Layout.{Layout}
 
 pub no_digests : (payload : List ℕ) → [] ≡ digests 0 payload

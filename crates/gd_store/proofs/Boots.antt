@@ -1,29 +1,17 @@
 -- What an image with one copy being written boots to.
-use Rattle.std.proofs.Common.{◌≡◌, ◌≢◌, ◌⊎◌, inl, inr, ⊎_elim, ℕ, zero, suc, ◌+◌, ◌*◌, ◌-◌, ◌^◌, ◌<◌, ◌≤◌, if◌then◌else◌, ◌==◌, nat_lt, List, [], ◌∷◌, ◌++◌, length, get_or, take, drop, refl, sym, ◌∙◌, ap, subst, arith, Bool, true, false, Option, Some, None, append_assoc}
+use Rattle.std.proofs.Common.{◌≡◌, ◌≢◌, ◌⊎◌, inl, inr, ⊎_elim, ℕ, ◌+◌, ◌*◌, ◌^◌, ◌<◌, ◌≤◌, List, length, get_or, refl, sym, ◌∙◌, ap, subst, arith, Option, Some, None}
 use Rattle.std.proofs.lemmas.Bool.{cases_eq}
 use Rattle.std.proofs.lemmas.Bool.Decides.{nat_tests}
-use Rattle.std.proofs.lemmas.List.{get_or-take, get_or-drop}
-use Rattle.std.specs.Str.{bytes_eq}
-use Rattle.gd_disk.specs.Disk.{DiskState, Torn}
-use Rattle.gd_store.specs.Copy.{part, copy_len, sealed, body_of, state_of, stored_payload, copy_a, copy_b, chosen, boots, IsCopy, HoldsBoth, LiesWithin}
+use Rattle.gd_store.specs.Copy.{part, copy_len, sealed, state_of, stored_payload, copy_a, copy_b, chosen, boots, IsCopy}
 use Rattle.gd_store.specs.Writing.{IsShut, IsWriting}
-use Rattle.gd_store.proofs.Images.{part_before, part_behind}
-use Rattle.gd_store.specs.Writing.{From}
-use Rattle.gd_disk.specs.Disk.{IfTold, IsSynced, written, seen_written}
-use Rattle.gd_disk.specs.Runs.{LeavesOnly}
-use Rattle.gd_disk.proofs.Runs.{weaker, and_then}
-use Rattle.gd_store.proofs.CopyMoments.{told}
+use Rattle.gd_store.proofs.Images.{part_before, part_behind, first_of}
+use Rattle.gd_disk.specs.Disk.{IfTold, written}
 use Rattle.gd_disk.proofs.Written.{torn-written, part-written}
 use Rattle.gd_store.proofs.Sealed.{same_bytes, length-sealed, sealed_sound, sealed_payload}
 use Rattle.gd_store.specs.declared.layout.Layout.{Layout}
-use Rattle.gd_store.specs.declared.copy.Why.{Why}
-use Rattle.gd_store.specs.declared.copy.Why.TheVariants.{Shut, BadHeader, BadRoot, BadPage}
+use Rattle.gd_store.specs.declared.copy.Why.TheVariants.{Shut}
 use Rattle.gd_store.specs.declared.copy.CopyState.{CopyState}
 use Rattle.gd_store.specs.declared.copy.CopyState.TheVariants.{Sound, Bad}
-
--- the gate of a copy is the image's byte at its place
-gate_is : (at n : ℕ) (image : List ℕ) → 0 < n → get_or (part at n image) 0 0 ≡ get_or image at 0
-gate_is at n image lt = get_or-take n (drop at image) 0 0 lt ∙ get_or-drop at image 0 0 ∙ ap (λ (k : ℕ). get_or image k 0) (omega arith)
 
 shut_state : (l : Layout) (copy : List ℕ) → (get_or copy 0 0 ≢ 0xA5) → state_of l copy ≡ Bad Shut
 unfolding state_of
@@ -62,10 +50,10 @@ sound_open l m copy sound = elim (cases_eq (get_or copy 0 0) 0xA5) [
 ]
 
 pub open_a : (l : Layout) (m : ℕ) (p image : List ℕ) → IsCopy l m p (copy_a l image) → get_or image l.a 0 ≡ 0xA5
-open_a l m p image is = sym (gate_is l.a (copy_len l.pages) image (omega arith)) ∙ sound_open l m (copy_a l image) is.0
+open_a l m p image is = sym (first_of l.a (copy_len l.pages) image (omega arith)) ∙ sound_open l m (copy_a l image) is.0
 
 pub open_b : (l : Layout) (m : ℕ) (p image : List ℕ) → IsCopy l m p (copy_b l image) → get_or image l.b 0 ≡ 0xA5
-open_b l m p image is = sym (gate_is l.b (copy_len l.pages) image (omega arith)) ∙ sound_open l m (copy_b l image) is.0
+open_b l m p image is = sym (first_of l.b (copy_len l.pages) image (omega arith)) ∙ sound_open l m (copy_b l image) is.0
 
 -- a copy carried along
 carried : (l : Layout) (m : ℕ) (p x y : List ℕ) → y ≡ x → IsCopy l m p x → IsCopy l m p y
@@ -80,10 +68,10 @@ module _ (l : Layout) (n : ℕ) (q : List ℕ) (range : n < 2 ^ 64) (long_q : le
 
   -- one copy is being written over another: what stands is the other copy, and this one is the old one, or shut, or new
   shut_a : (c : List ℕ) → IsShut l.a c → state_of l (copy_a l c) ≡ Bad Shut
-  shut_a c shut = shut_state l (copy_a l c) (λ is_open. shut (sym (gate_is l.a (copy_len l.pages) c (omega arith)) ∙ is_open))
+  shut_a c shut = shut_state l (copy_a l c) (λ is_open. shut (sym (first_of l.a (copy_len l.pages) c (omega arith)) ∙ is_open))
 
   shut_b : (c : List ℕ) → IsShut l.b c → state_of l (copy_b l c) ≡ Bad Shut
-  shut_b c shut = shut_state l (copy_b l c) (λ is_open. shut (sym (gate_is l.b (copy_len l.pages) c (omega arith)) ∙ is_open))
+  shut_b c shut = shut_state l (copy_b l c) (λ is_open. shut (sym (first_of l.b (copy_len l.pages) c (omega arith)) ∙ is_open))
 
   b_stands : (d c : List ℕ) → IsWriting l.a (sealed l n q) d c → copy_b l c ≡ copy_b l d
   b_stands d c w = part_behind l.a (length (sealed l n q)) l.b (copy_len l.pages) d c (omega (arith, len_new, apart)) w.elsewhere

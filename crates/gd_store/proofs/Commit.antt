@@ -1,9 +1,9 @@
 -- What each moment of a commit leaves.
-use Rattle.std.proofs.Common.{◌≡◌, ◌≢◌, ◌⊎◌, inl, inr, ⊎_elim, ℕ, zero, suc, ◌+◌, ◌*◌, ◌-◌, ◌^◌, ◌<◌, ◌≤◌, List, [], ◌∷◌, ◌++◌, length, get_or, refl, sym, ◌∙◌, ap, subst, arith, Option, Some, None}
-use Rattle.gd_disk.specs.Disk.{DiskState, Torn, IfTold, IsSynced, written, seen_written}
+use Rattle.std.proofs.Common.{◌≡◌, ◌⊎◌, inr, ℕ, ◌*◌, ◌^◌, ◌<◌, List, ◌∷◌, length, get_or, refl, sym, ap, subst, arith, Option, Some, None}
+use Rattle.gd_disk.specs.Disk.{DiskState, IfTold, IsSynced, written, seen_written}
 use Rattle.gd_disk.specs.Runs.{LeavesOnly}
 use Rattle.gd_disk.proofs.Runs.{weaker, and_then}
-use Rattle.gd_store.specs.Copy.{copy_len, sealed, body_of, boots, HoldsBoth, LiesWithin}
+use Rattle.gd_store.specs.Copy.{sealed, body_of, boots, HoldsBoth, LiesWithin}
 use Rattle.gd_store.specs.Writing.{IsWriting, From}
 use Rattle.gd_store.proofs.CopyMoments.{told}
 use Rattle.gd_store.proofs.Boots.{carries, Holds, told_maps, open_a, open_b, boots_a, boots_b, written_a, written_b}

@@ -1,6 +1,6 @@
 -- Parts of an image that a write leaves alone.
-use Rattle.std.proofs.Common.{◌≡◌, ℕ, ◌+◌, ◌-◌, ◌≤◌, List, take, drop, sym, ◌∙◌, ap, arith}
-use Rattle.std.proofs.lemmas.List.{take-take, drop-drop, drop-take}
+use Rattle.std.proofs.Common.{◌≡◌, ℕ, ◌+◌, ◌-◌, ◌<◌, ◌≤◌, List, get_or, take, drop, sym, ◌∙◌, ap, arith}
+use Rattle.std.proofs.lemmas.List.{take-take, drop-drop, drop-take, get_or-take, get_or-drop}
 use Rattle.gd_disk.specs.Disk.{Torn}
 use Rattle.gd_store.specs.Copy.{part}
 
@@ -19,3 +19,7 @@ part_behind at n b l old new le torn = ap (λ (x : List ℕ). take l x) (sym (fu
 
     further : (x : List ℕ) → drop (b - (at + n)) (drop (at + n) x) ≡ drop b x
     further x = drop-drop (b - (at + n)) (at + n) x ∙ ap (λ (k : ℕ). drop k x) sums
+
+-- the first byte of a part is the one at its place
+pub first_of : (at n : ℕ) (image : List ℕ) → 0 < n → get_or (part at n image) 0 0 ≡ get_or image at 0
+first_of at n image lt = get_or-take n (drop at image) 0 0 lt ∙ get_or-drop at image 0 0 ∙ ap (λ (k : ℕ). get_or image k 0) (omega arith)

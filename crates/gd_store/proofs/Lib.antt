@@ -8,3 +8,4 @@ pub mod Parts
 pub mod RepairMoments
 pub mod Assembled
 pub mod Sealed
+pub mod Makings

@@ -1,9 +1,9 @@
 -- What each moment of a repair leaves.
-use Rattle.std.proofs.Common.{◌≡◌, ◌⊎◌, ℕ, ◌+◌, ◌*◌, ◌^◌, ◌<◌, ◌≤◌, List, [], ◌∷◌, length, get_or, refl, sym, ◌∙◌, ap, subst, arith, Option, Some, None}
-use Rattle.gd_disk.specs.Disk.{DiskState, Torn, IfTold, IsSynced, written, seen_written}
+use Rattle.std.proofs.Common.{◌≡◌, ℕ, ◌*◌, ◌^◌, ◌<◌, List, length, sym, ◌∙◌, subst, arith, Option, Some}
+use Rattle.gd_disk.specs.Disk.{DiskState, IfTold, IsSynced, written, seen_written}
 use Rattle.gd_disk.specs.Runs.{LeavesOnly}
 use Rattle.gd_disk.proofs.Runs.{weaker}
-use Rattle.gd_store.specs.Copy.{copy_len, sealed, boots, IsCopy, HoldsBoth, LiesWithin, copy_a, copy_b}
+use Rattle.gd_store.specs.Copy.{sealed, boots, IsCopy, HoldsBoth, LiesWithin, copy_a, copy_b}
 use Rattle.gd_store.specs.Writing.{IsWriting, From, KeepsBoot}
 use Rattle.gd_store.proofs.CopyMoments.{told}
 use Rattle.gd_store.proofs.Commit.{told_written}

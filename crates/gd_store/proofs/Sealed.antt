@@ -1,22 +1,16 @@
 -- A sealed copy is sound, and spells its payload.
-use Rattle.std.proofs.Common.{◌≡◌, ◌≢◌, ◌⊎◌, inl, inr, ⊎_elim, ℕ, zero, suc, ◌+◌, ◌*◌, ◌-◌, ◌^◌, ◌<◌, ◌≤◌, List, [], ◌∷◌, ◌++◌, length, get_or, take, drop, refl, sym, ◌∙◌, ap, subst, arith, Bool, true, false, Option, Some, None, append_assoc, length-append, if◌then◌else◌, ◌==◌, nat_eq}
-use Rattle.std.proofs.lemmas.Bool.Decides.{nat_tests}
+use Rattle.std.proofs.Common.{◌≡◌, inl, inr, ℕ, zero, suc, ◌+◌, ◌*◌, ◌^◌, ◌<◌, ◌≤◌, List, ◌++◌, length, get_or, refl, sym, ◌∙◌, ap, subst, arith, true, None, length-append, nat_eq}
 use Rattle.std.proofs.lemmas.Bool.{cases_eq}
 use Rattle.std.proofs.lemmas.Nat.{from_be_bytes-to_be_bytes_8}
-use Rattle.std.specs.Int.{w16, w64, to_be_bytes, from_be_bytes}
+use Rattle.std.specs.Int.{w64, to_be_bytes, from_be_bytes}
 use Rattle.std.specs.Str.{bytes_eq}
-use Rattle.std.proofs.lemmas.List.{take_at}
 use Rattle.sha2.specs.Sha256.{sha256}
 use Rattle.sha2.proofs.Facts256.{length-sha256}
 use Rattle.std.proofs.lemmas.Slice.Eq.{bytes_eq-Decides}
-use Rattle.std.specs.Bool.{Decides}
-use Rattle.gd_store.specs.Copy.{part, copy_len, header_start, page, digests, head_of, sealed, body_of, state_of, pages_state, page_matches, lowest_bad, stored_sequence, stored_head, stored_seal, stored_payload, stored_digest}
-use Rattle.gd_store.proofs.Parts.{part_front, part_part, part_last, part_middle, length-copy, part_start, part_number, part_head, part_digs, part_seal, part_payload}
+use Rattle.gd_store.specs.Copy.{part, copy_len, header_start, page, digests, head_of, sealed, body_of, state_of, page_matches, lowest_bad, stored_sequence, stored_head, stored_seal, stored_payload, stored_digest}
+use Rattle.gd_store.proofs.Parts.{part_front, part_part, part_last, length-copy, part_start, part_number, part_head, part_digs, part_seal, part_payload}
 use Rattle.gd_store.specs.declared.layout.Layout.{Layout}
-use Rattle.gd_store.specs.declared.copy.Why.{Why}
-use Rattle.gd_store.specs.declared.copy.Why.TheVariants.{Shut, BadHeader, BadRoot, BadPage}
-use Rattle.gd_store.specs.declared.copy.CopyState.{CopyState}
-use Rattle.gd_store.specs.declared.copy.CopyState.TheVariants.{Sound, Bad}
+use Rattle.gd_store.specs.declared.copy.CopyState.TheVariants.{Sound}
 
 pub length-digests : (n : ℕ) (payload : List ℕ) → length (digests n payload) ≡ 32 * n
 unfolding digests

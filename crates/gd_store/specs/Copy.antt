@@ -1,11 +1,10 @@
 -- A sealed copy of a payload, and what two of them boot to.
-use Rattle.std.specs.Prelude.{Bool, ◌≡◌, ◌⊎◌, ℕ, zero, suc, ◌+◌, ◌*◌, ◌^◌, ◌<◌, ◌≤◌, ◌==◌, if◌then◌else◌, nat_lt, List, [], ◌∷◌, ◌++◌, length, take, drop, slice_index, Option, Some, None}
+use Rattle.std.specs.Prelude.{Bool, ◌≡◌, ℕ, zero, suc, ◌+◌, ◌*◌, ◌^◌, ◌<◌, ◌≤◌, ◌==◌, if◌then◌else◌, nat_lt, List, [], ◌∷◌, ◌++◌, take, drop, slice_index, Option, Some, None}
 use Rattle.std.specs.Int.{w16, w64, to_be_bytes, from_be_bytes}
 use Rattle.std.specs.Str.{bytes_eq}
 use Rattle.sha2.specs.Sha256.{sha256}
 use Rattle.gd_store.specs.declared.layout.Layout.{Layout}
 use Rattle.gd_store.specs.declared.found.Found.{Found}
-use Rattle.gd_store.specs.declared.copy.Why.{Why}
 use Rattle.gd_store.specs.declared.copy.Why.TheVariants.{Shut, BadHeader, BadRoot, BadPage}
 use Rattle.gd_store.specs.declared.copy.CopyState.{CopyState}
 use Rattle.gd_store.specs.declared.copy.CopyState.TheVariants.{Sound, Bad}

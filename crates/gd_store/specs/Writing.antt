@@ -1,12 +1,16 @@
 -- What the writing of one copy leaves.
-use Rattle.std.specs.Prelude.{◌≡◌, ◌≢◌, ◌⊎◌, ℕ, ◌+◌, ◌<◌, ◌≤◌, List, [], ◌∷◌, length, take, drop, slice_index, Result, OnOk, OnErr, Option, if◌then◌else◌, ◌==◌}
+use Rattle.std.specs.Prelude.{◌≡◌, ◌≢◌, ◌⊎◌, ℕ, ◌+◌, ◌<◌, ◌≤◌, List, [], ◌∷◌, length, slice_index, Result, OnOk, OnErr, Option, if◌then◌else◌, ◌==◌}
 use Rattle.gd_store.specs.Copy.{part, boots}
 use Rattle.gd_store.specs.declared.layout.Layout.{Layout}
-use Rattle.gd_disk.specs.Disk.{seen_written, DiskState, Torn, Rose}
+use Rattle.gd_disk.specs.Disk.{seen_written, DiskState, Torn}
 
 -- the gate at this place isn't open
 abbrev pub IsShut : ℕ → List ℕ → Type 0
 IsShut at image = slice_index image at ≢ 0xA5
+
+-- no gate of the two copies is open
+abbrev pub AreShut : Layout → List ℕ → Type 0
+AreShut l image = IsShut l.a image × IsShut l.b image
 
 -- what a read gives after a gate that held this byte is shut
 abbrev pub seen_shut : ℕ → ℕ → Option (List ℕ) → Option (List ℕ)

@@ -1,14 +1,14 @@
 // The making of a memory.
-ghost use Rattle.std.specs.Prelude.{◌≡◌, ◌+◌, ◌*◌, ◌≤◌, length, OnOk};
+ghost use Rattle.std.specs.Prelude.{◌≡◌, ◌+◌, ◌*◌, ◌≤◌, length, slice_index, IfOk, OnOk};
 ghost use Rattle.gd_disk.specs.Disk.{IfTold, IsSynced, Answers};
 ghost use Rattle.gd_disk.specs.Runs.{CutsOfRun};
 ghost use Rattle.gd_store.specs.Copy.{HoldsBoth, LiesWithin, copy_len};
 ghost use Rattle.gd_store.specs.Words.{room_payload};
-ghost use Rattle.gd_store.specs.Writing.{MadeSyncs};
+ghost use Rattle.gd_store.specs.Writing.{AreShut, MadeSyncs};
 ghost use Rattle.gd_store.specs.Making.{made_disk, made_room, made_outcome};
 
 use crate::sealing::seal_body;
-use crate::writing::{OPEN, SHUT, write_synced};
+use crate::writing::{shut_open, write_shut};
 use crate::{LAYOUT, Layout, Room, Store};
 use gd_disk::{DISK_LEN, Disk, Off};
 
@@ -61,47 +61,35 @@ fn make_both<D: Disk>(
 {
     shut_both(disk, layout)?;
     seal_body(layout, 0, payload, body);
-    write_synced(disk, layout.a + 1, body)?;
-    write_synced(disk, layout.a, &[OPEN])?;
-    write_synced(disk, layout.b + 1, body)?;
-    write_synced(disk, layout.b, &[OPEN])
+    write_shut(disk, layout.a, body)?;
+    write_shut(disk, layout.b, body)
 }
 
 // Shuts the gates that are open. The one sync is made all the same.
 fn shut_both<D: Disk>(disk: &mut D, layout: Layout) -> Result<(), Off>
     requires within { LiesWithin layout (D.state disk.old).size }
+    ensures shut { OnOk result (IfTold (D.state disk.new).seen (AreShut layout)) }
+    ensures synced { OnOk result (IsSynced (D.state disk.new)) }
     ensures answer { Answers result (D.state disk.old) (D.state disk.new) }
     ensures syncs { MadeSyncs 1 result (D.state disk.old) (D.state disk.new) }
     ensures cuts { CutsOfRun 1 result (D.state disk.old) (D.state disk.new) }
 {
-    let gate_a = gate(disk, layout.a)?;
-    let gate_b = gate(disk, layout.b)?;
+    let gate_a = read_gate(disk, layout.a)?;
+    let gate_b = read_gate(disk, layout.b)?;
     shut_open(disk, layout.a, gate_a)?;
     shut_open(disk, layout.b, gate_b)?;
     disk.sync()
 }
 
-// Reads a gate.
-fn gate<D: Disk>(disk: &mut D, at: u64) -> Result<u8, Off>
+fn read_gate<D: Disk>(disk: &mut D, at: u64) -> Result<u8, Off>
     requires { at + 1 ≤ (D.state disk.old).size }
+    ensures gate { IfOk result (λ gate. IfTold (D.state disk.old).seen (λ image. slice_index image at ≡ gate)) }
+    ensures seen { OnOk result ((D.state disk.new).seen ≡ (D.state disk.old).seen) }
     ensures answer { Answers result (D.state disk.old) (D.state disk.new) }
     ensures syncs { (D.state disk.new).syncs ≡ (D.state disk.old).syncs }
     ensures cuts { CutsOfRun 0 result (D.state disk.old) (D.state disk.new) }
 {
-    let mut byte = [SHUT];
+    let mut byte = [0];
     disk.read(at, &mut byte)?;
     Ok(byte[0])
-}
-
-// Writes over a gate that is open. No sync is made.
-fn shut_open<D: Disk>(disk: &mut D, at: u64, gate: u8) -> Result<(), Off>
-    requires { at + 1 ≤ (D.state disk.old).size }
-    ensures answer { Answers result (D.state disk.old) (D.state disk.new) }
-    ensures syncs { (D.state disk.new).syncs ≡ (D.state disk.old).syncs }
-    ensures cuts { CutsOfRun 0 result (D.state disk.old) (D.state disk.new) }
-{
-    if gate == OPEN {
-        return disk.write(at, &[SHUT]);
-    }
-    Ok(())
 }

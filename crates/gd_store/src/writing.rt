@@ -6,8 +6,8 @@ ghost use Rattle.gd_store.specs.Writing.{seen_shut, IsShutting, IsShut, IsWritin
 
 use gd_disk::{Disk, Off};
 
-/// Writes, and keeps it by a sync.
-pub(crate) fn write_synced<D: Disk>(disk: &mut D, at: u64, bytes: &[u8]) -> Result<(), Off>
+// Writes, and keeps it by a sync.
+fn write_synced<D: Disk>(disk: &mut D, at: u64, bytes: &[u8]) -> Result<(), Off>
     requires { at + length bytes.now ≤ (D.state disk.old).size }
     ensures seen { OnOk result ((D.state disk.new).seen ≡ seen_written at bytes.now (D.state disk.old).seen) }
     ensures synced { OnOk result (IsSynced (D.state disk.new)) }
@@ -22,9 +22,9 @@ pub(crate) fn write_synced<D: Disk>(disk: &mut D, at: u64, bytes: &[u8]) -> Resu
 
 pub(crate) const OPEN: u8 = 0xA5;
 
-pub(crate) const SHUT: u8 = 0;
+const SHUT: u8 = 0;
 
-/// Shuts a gate that is open. The sync is made all the same.
+// Shuts a gate that is open. The sync is made all the same.
 fn shut<D: Disk>(disk: &mut D, at: u64, gate: u8) -> Result<(), Off>
     requires within { at + 1 ≤ (D.state disk.old).size }
     requires synced { IsSynced (D.state disk.old) }
@@ -44,7 +44,41 @@ fn shut<D: Disk>(disk: &mut D, at: u64, gate: u8) -> Result<(), Off>
     }
 }
 
-/// Writes a copy over another: shuts its gate, writes its body, and opens the gate, each kept by a sync.
+// Writes over a gate that is open. No sync is made.
+pub(crate) fn shut_open<D: Disk>(disk: &mut D, at: u64, gate: u8) -> Result<(), Off>
+    requires within { at + 1 ≤ (D.state disk.old).size }
+    requires on { (D.state disk.old).is_on ≡ true }
+    requires gate { IfTold (D.state disk.old).seen (λ image. slice_index image at ≡ gate) }
+    ensures seen { OnOk result ((D.state disk.new).seen ≡ seen_shut at gate (D.state disk.old).seen) }
+    ensures shut { OnOk result (IfTold (D.state disk.new).seen (IsShut at)) }
+    ensures answer { Answers result (D.state disk.old) (D.state disk.new) }
+    ensures syncs { (D.state disk.new).syncs ≡ (D.state disk.old).syncs }
+    ensures cuts { CutsOfRun 0 result (D.state disk.old) (D.state disk.new) }
+{
+    if gate == OPEN {
+        return disk.write(at, &[SHUT]);
+    }
+    Ok(())
+}
+
+// Writes a copy over one that is shut: its body, and then its gate, each kept by a sync.
+pub(crate) fn write_shut<D: Disk>(disk: &mut D, at: u64, body: &[u8]) -> Result<(), Off>
+    requires within { at + 1 + length body.now ≤ (D.state disk.old).size }
+    requires bounded { (D.state disk.old).size < 2 ^ 64 }
+    requires synced { IsSynced (D.state disk.old) }
+    requires shut { IfTold (D.state disk.old).seen (IsShut at) }
+    ensures seen { OnOk result ((D.state disk.new).seen ≡ seen_written at (OPEN ∷ body.now) (D.state disk.old).seen) }
+    ensures synced { OnOk result (IsSynced (D.state disk.new)) }
+    ensures any_moment { LeavesOnly (D.state disk.old) (D.state disk.new) (From (D.state disk.old) (IsWriting at (OPEN ∷ body.now))) }
+    ensures answer { Answers result (D.state disk.old) (D.state disk.new) }
+    ensures syncs { MadeSyncs 2 result (D.state disk.old) (D.state disk.new) }
+    ensures cuts { CutsOfRun 2 result (D.state disk.old) (D.state disk.new) }
+{
+    write_synced(disk, at + 1, body)?;
+    write_synced(disk, at, &[OPEN])
+}
+
+// Writes a copy over another: shuts its gate, writes its body, and opens the gate, each kept by a sync.
 pub(crate) fn write_copy<D: Disk>(disk: &mut D, at: u64, gate: u8, body: &[u8]) -> Result<(), Off>
     requires within { at + 1 + length body.now ≤ (D.state disk.old).size }
     requires bounded { (D.state disk.old).size < 2 ^ 64 }
@@ -58,6 +92,5 @@ pub(crate) fn write_copy<D: Disk>(disk: &mut D, at: u64, gate: u8, body: &[u8]) 
     ensures cuts { CutsOfRun 3 result (D.state disk.old) (D.state disk.new) }
 {
     shut(disk, at, gate)?;
-    write_synced(disk, at + 1, body)?;
-    write_synced(disk, at, &[OPEN])
+    write_shut(disk, at, body)
 }

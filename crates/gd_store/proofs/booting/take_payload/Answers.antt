@@ -1,4 +1,4 @@
-use Rattle.std.proofs.Common.{rules, ◌≡◌, ◌∙◌, ap, ◌+◌, ◌*◌, ◌-◌, ℕ, List, length, take, drop}
+use Rattle.std.proofs.Common.{rules, ◌≡◌, ◌∙◌, ap, ◌-◌, ℕ, List, length, take, drop}
 use Rattle.gd_store.specs.Copy.{stored_payload}
 use Rattle.gd_store.specs.declared.layout.TheConstants.{LAYOUT}
 use Rattle.gd_store.proofs.Pages.{slice_payload}

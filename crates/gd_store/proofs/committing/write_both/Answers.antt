@@ -1,6 +1,5 @@
-use Rattle.std.proofs.Common.{◌≡◌, ◌⊎◌, inl, inr, ◌+◌, ◌*◌, ◌^◌, ◌<◌, ◌≤◌, ◌∷◌, [], ◌∙◌, ℕ, List, length, sym, ap, subst, arith, rules, Option, Some, get_or}
+use Rattle.std.proofs.Common.{◌+◌, ◌∷◌, arith}
 use Rattle.std.proofs.lemmas.Result.{on_ok_weaker}
-use Rattle.gd_store.specs.Copy.{sealed, body_of}
 use Rattle.gd_store.proofs.Commit.{gate_a, gate_b, opened, moments_a, moments_b, both}
 use Rattle.gd_store.proofs.committing.write_both.Goals as goal
 

@@ -1,10 +1,7 @@
-use Rattle.std.proofs.Common.{◌≡◌, ◌∙◌, sym, ap, subst, ◌+◌, ◌*◌, ◌-◌, ℕ, List, length, take, drop, arith, Option, Some, None}
-use Rattle.std.proofs.lemmas.Result.{on_ok_weaker}
-use Rattle.gd_disk.specs.Disk.{IfTold}
+use Rattle.std.proofs.Common.{◌≡◌, subst, ◌+◌, ◌*◌, ◌-◌, ℕ, List, length, take, drop, arith}
 use Rattle.gd_store.specs.Copy.{chosen, stored_payload, copy_len}
 use Rattle.gd_store.specs.Choice.{spelled}
 use Rattle.gd_store.proofs.Pages.{slice_payload}
-use Rattle.gd_store.proofs.Boots.{told_maps, boots_from}
 use Rattle.gd_store.proofs.reading.read_copies.Goals as goal
 
 pub returns-clause-choice : goal.returns-clause-choice

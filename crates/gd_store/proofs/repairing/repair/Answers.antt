@@ -1,4 +1,4 @@
-use Rattle.std.proofs.Common.{rules, ◌≡◌, ℕ}
+use Rattle.std.proofs.Common.{rules, ◌≡◌}
 use Rattle.gd_disk.proofs.Cuts.{none_made}
 use Rattle.gd_store.specs.Repair.{repaired, syncs_of_repair}
 use Rattle.gd_store.proofs.repairing.repair.Goals as goal

@@ -1,5 +1,5 @@
-use Rattle.std.proofs.Common.{◌≡◌, ◌+◌, ◌*◌, ◌-◌, ◌++◌, ◌∙◌, ℕ, List, length, take, drop, arith, ap, refl, sym}
-use Rattle.gd_store.specs.Copy.{copy_len, header_start}
+use Rattle.std.proofs.Common.{◌≡◌, ◌+◌, ◌*◌, ◌∙◌, length, arith, ap, refl}
+use Rattle.gd_store.specs.Copy.{header_start}
 use Rattle.gd_store.proofs.Sealed.{length-digests}
 use Rattle.gd_store.proofs.Assembled.{assembled}
 use Rattle.gd_store.proofs.sealing.seal_body.Goals as goal

@@ -1,4 +1,4 @@
-use Rattle.std.proofs.Common.{◌≡◌, ◌+◌, ◌*◌, ◌-◌, ◌∙◌, ℕ, List, length, take, drop, arith, ap}
+use Rattle.std.proofs.Common.{◌≡◌, ◌+◌, ◌*◌, ◌-◌, ◌∙◌, ℕ, take, drop, arith, ap}
 use Rattle.sha2.specs.Sha256.{sha256}
 use Rattle.gd_store.specs.Copy.{page}
 use Rattle.gd_store.proofs.Assembled.{no_digests, digests_more}

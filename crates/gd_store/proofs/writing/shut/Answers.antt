@@ -1,4 +1,4 @@
-use Rattle.std.proofs.Common.{◌≡◌, ◌+◌, ◌<◌, ℕ, List, length, ◌∙◌, get_or, arith}
+use Rattle.std.proofs.Common.{◌≡◌, length, ◌∙◌, get_or, arith}
 use Rattle.gd_disk.specs.Disk.{Torn}
 use Rattle.gd_disk.proofs.Runs.{weaker}
 use Rattle.gd_store.specs.Writing.{IsShutting, From}

@@ -1,25 +1,20 @@
-use Rattle.std.proofs.Common.{◌≡◌, ◌+◌, ◌≤◌, ◌∷◌, [], ◌∙◌, ℕ, List, length, ap, arith, Option, Some}
+use Rattle.std.proofs.Common.{◌≡◌, ◌∷◌, ◌∙◌, ℕ, List, length, ap, arith, Option}
 use Rattle.std.proofs.lemmas.Result.{on_ok_weaker}
 use Rattle.gd_disk.specs.Disk.{seen_written}
-use Rattle.gd_store.proofs.CopyMoments.{seen_whole, moments_1, moments_2, moments_3}
+use Rattle.gd_store.proofs.CopyMoments.{seen_over, moments_shutting, moments_copy}
 use Rattle.gd_store.proofs.writing.write_copy.Goals as goal
 
 pub returns-in_err-shut-clause-any_moment : goal.returns-in_err-shut-clause-any_moment
-returns-in_err-shut-clause-any_moment g c = moments_1 c.args.at c.args.body.now _ _ c.shut.ensures.any_moment
-
-pub returns-in_err-write_synced-clause-any_moment : goal.returns-in_err-write_synced-clause-any_moment
-returns-in_err-write_synced-clause-any_moment g c =
-    moments_2 c.args.at c.args.body.now _ _ c.shut.ensures.any_moment _ c.in_ok-shut.ensures.synced c.in_ok-shut.ensures.shut c.write_synced.ensures.any_moment
+returns-in_err-shut-clause-any_moment g c = moments_shutting c.args.at c.args.body.now _ _ c.shut.ensures.any_moment
 
 pub returns-clause-seen : goal.returns-clause-seen
-returns-clause-seen g c = on_ok_weaker c.write_synced-2.result
-    (λ opened.
-    opened
-    ∙ ap (λ (s : Option (List ℕ)). seen_written c.args.at (0xA5 ∷ []) s) (c.in_ok-write_synced.ensures.seen ∙ ap (λ (s : Option (List ℕ)). seen_written (c.args.at + 1) c.args.body.now s) c.in_ok-shut.ensures.seen)
-    ∙ seen_whole c.args.at c.args.body.now (g.D.Disk.state c.args.disk.now).seen c.args.gate (λ d is. let long : length d ≡ (g.D.Disk.state c.args.disk.now).size = (g.D.Disk.state c.args.disk.now).whole d is in omega (arith, long, c.requires.within)))
-    c.write_synced-2.ensures.seen
+returns-clause-seen g c = on_ok_weaker c.write_shut.result
+    (λ seen.
+    seen
+    ∙ ap (λ (s : Option (List ℕ)). seen_written c.args.at (0xA5 ∷ c.args.body.now) s) c.in_ok-shut.ensures.seen
+    ∙ seen_over c.args.at c.args.body.now (g.D.Disk.state c.args.disk.now).seen c.args.gate (λ d is. let long : length d ≡ (g.D.Disk.state c.args.disk.now).size = (g.D.Disk.state c.args.disk.now).whole d is in omega (arith, long, c.requires.within)))
+    c.write_shut.ensures.seen
 
 pub returns-clause-any_moment : goal.returns-clause-any_moment
 returns-clause-any_moment g c =
-    moments_3 c.args.at c.args.body.now _ _ c.shut.ensures.any_moment _ c.in_ok-shut.ensures.synced c.in_ok-shut.ensures.shut c.write_synced.ensures.any_moment _ c.requires.synced c.requires.within
-    c.in_ok-write_synced.ensures.synced c.in_ok-write_synced.ensures.seen c.write_synced-2.ensures.any_moment
+    moments_copy c.args.at c.args.body.now _ _ c.shut.ensures.any_moment _ c.in_ok-shut.ensures.synced c.in_ok-shut.ensures.shut c.write_shut.ensures.any_moment

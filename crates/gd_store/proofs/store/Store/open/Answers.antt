@@ -1,6 +1,3 @@
-use Rattle.std.proofs.Common.{rules, ◌≡◌, subst}
-use Rattle.gd_disk.specs.Runs.{LeavesOnly}
-use Rattle.gd_store.specs.Writing.{KeepsBoot}
 use Rattle.gd_store.specs.declared.layout.TheConstants.{LAYOUT}
 use Rattle.gd_store.proofs.Openings.{kept_boot, reads_keep_boot, still_synced, read_failed, repair_failed}
 use Rattle.gd_store.proofs.store.Store.open.Goals as goal

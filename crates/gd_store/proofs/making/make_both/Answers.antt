@@ -1,0 +1,16 @@
+use Rattle.std.proofs.Common.{◌∷◌, ℕ, arith, subst, sym}
+use Rattle.std.proofs.lemmas.Result.{on_ok_weaker}
+use Rattle.gd_store.specs.Copy.{LiesWithin}
+use Rattle.gd_store.proofs.Commit.{opened}
+use Rattle.gd_store.proofs.Makings.{made_both}
+use Rattle.gd_store.proofs.making.make_both.Goals as goal
+
+pub returns-clause-holds : goal.returns-clause-holds
+returns-clause-holds g c =
+    let l = c.args.layout in
+    let s1 = g.D.Disk.state c.shut_both.new.disk in
+    let within = subst (λ (n : ℕ). LiesWithin l n) (sym c.shut_both.ensures.answer.size) c.requires.within in
+    on_ok_weaker c.write_shut-2.result
+    (made_both l 0 c.args.payload.now (0xA5 ∷ c.seal_body.new.body) (omega arith) c.requires.payload (opened l 0 c.args.payload.now c.seal_body.new.body c.seal_body.ensures)
+    s1 (g.D.Disk.state c.write_shut.new.disk) (g.D.Disk.state c.write_shut-2.new.disk) within c.write_shut.ensures.answer.size c.in_ok-write_shut.ensures.seen)
+    c.write_shut-2.ensures.seen
