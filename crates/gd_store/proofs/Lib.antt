@@ -9,3 +9,4 @@ pub mod RepairMoments
 pub mod Assembled
 pub mod Sealed
 pub mod Makings
+pub mod Lent
