@@ -14,6 +14,8 @@ mod repairing;
 mod room;
 mod sealing;
 mod store;
+#[cfg(test)]
+mod tests;
 mod writing;
 
 pub use booting::{Booted, boot};

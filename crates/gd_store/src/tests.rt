@@ -1,0 +1,328 @@
+// What no clause says: that the calls succeed, the bytes of a copy, and what is found after a cut at each call.
+ghost use Rattle.std.specs.Prelude.{◌≡◌, ◌+◌, ◌*◌, length, IfOk, OnOk};
+ghost use Rattle.gd_disk.specs.Disk.{IsSynced};
+ghost use Rattle.gd_store.specs.Opened.{IsOpenable};
+
+use crate::sealing::seal_body;
+use crate::{Booted, CopyState, Found, LAYOUT, Made, Opened, Room, Store, Why, boot};
+use gd_disk::{
+    COPY_LEN, CutUnit, DISK_LEN, Disk, LabDisk, MemoryDisk, MemoryLab, PAGE_COUNT, PAGE_LEN,
+};
+use std::alloc::{AllocError, Global};
+use std::process::Abort;
+use std::test::Fail;
+
+const PAYLOAD_LEN: usize = PAGE_LEN * PAGE_COUNT;
+
+// The gate and the header of an open copy at sequence 0.
+const HEADER: [u8; 17] = [
+    0xA5, 0x47, 0x44, 0x43, 0x4D, 0, 0, 0, 32, 0, 0, 0, 0, 0, 0, 0, 0,
+];
+
+// The digests of a page of 0x00 and of one of 0x1f, and the seal of a copy at sequence 0 whose page i has the byte i.
+const PAGE_0: [u8; 32] = [
+    0x07, 0x6a, 0x27, 0xc7, 0x9e, 0x5a, 0xce, 0x2a, 0x3d, 0x47, 0xf9, 0xdd, 0x2e, 0x83, 0xe4, 0xff,
+    0x6e, 0xa8, 0x87, 0x2b, 0x3c, 0x22, 0x18, 0xf6, 0x6c, 0x92, 0xb8, 0x9b, 0x55, 0xf3, 0x65, 0x60,
+];
+
+const PAGE_31: [u8; 32] = [
+    0x81, 0xc6, 0xf0, 0xca, 0x61, 0x22, 0xc3, 0x85, 0xf0, 0x42, 0x3c, 0x5c, 0xb8, 0x4e, 0x54, 0x18,
+    0x8b, 0x2f, 0x43, 0x80, 0x03, 0xf5, 0x7a, 0x06, 0x5b, 0x8e, 0x94, 0xa6, 0x0d, 0x0b, 0x5f, 0x59,
+];
+
+const SEAL: [u8; 32] = [
+    0x50, 0xf1, 0xe5, 0x56, 0xc9, 0xcc, 0x49, 0x93, 0xd5, 0x2d, 0x92, 0x72, 0x7e, 0x42, 0xe7, 0x80,
+    0x8f, 0xaf, 0xe1, 0x73, 0x56, 0x5b, 0x8a, 0x73, 0x78, 0x42, 0x73, 0xc3, 0xbd, 0xdf, 0xf2, 0xd6,
+];
+
+// A payload whose page i has the byte `first + i` all over.
+fn payload(alloc: Global, first: u8) -> Result<Vec<u8>, AllocError>
+    ensures { IfOk result (λ v. length v.items ≡ PAYLOAD_LEN) }
+{
+    let mut bytes = vec![in alloc; 0; PAYLOAD_LEN]?;
+    for i in 0..PAYLOAD_LEN {
+        bytes[i] = first.wrapping_add((i / PAGE_LEN) as u8);
+    }
+    Ok(bytes)
+}
+
+fn made<D: Disk + Drop>(rt: &impl Abort, disk: D, room: Room) -> Result<(D, Room), Fail>
+    ensures { IfOk result (λ parts. IsSynced (D.state parts.0)) }
+{
+    assert!(rt; disk.len() == DISK_LEN);
+    match Store::make(disk, room) {
+        Made::Done { disk, room } => Ok((disk, room)),
+        Made::Off { disk: _, room: _ } => Err(Fail::new("off while a memory was made")),
+    }
+}
+
+fn opened<D: Disk + Drop>(rt: &impl Abort, disk: D, room: Room) -> Result<(Store<D>, Found), Fail>
+    requires { IsOpenable (D.state disk) }
+{
+    assert!(rt; disk.len() == DISK_LEN);
+    match Store::open(disk, room) {
+        Opened::Ready { store, found } => Ok((store, found)),
+        Opened::Lost {
+            found: _,
+            disk: _,
+            room: _,
+        } => Err(Fail::new("lost")),
+        Opened::Off { disk: _, room: _ } => Err(Fail::new("off while a store was opened")),
+    }
+}
+
+fn commit<D: Disk>(rt: &impl Abort, store: &mut Store<D>, payload: &[u8]) -> bool {
+    assert!(rt; payload.len() == PAYLOAD_LEN);
+    assert!(rt; store.sequence() < 1000);
+    store.commit(payload).is_ok()
+}
+
+fn both(state: CopyState) -> Found {
+    Found { a: state, b: state }
+}
+
+// Makes, commits, closes, opens again and boots.
+fn keeps<D: Disk + Drop>(rt: &impl Abort, alloc: Global, disk: D) -> Result<(), Fail> {
+    let (first, second) = (payload(alloc, 1)?, payload(alloc, 50)?);
+    let mut room = Room::new(alloc)?;
+    room.payload_mut().copy_from_slice(&first);
+    let (disk, room) = made(rt, disk, room)?;
+    let (mut store, found) = opened(rt, disk, room)?;
+    assert_eq!(rt; found, both(CopyState::Sound(0)));
+    assert!(rt; store.payload() == first.as_slice());
+    assert!(rt; commit(rt, &mut store, &second));
+    assert_eq!(rt; (store.sequence(), store.stops()), (1, 0));
+    assert!(rt; store.payload() == second.as_slice());
+    assert!(rt; !store.is_stopped());
+    let (disk, room) = store.close();
+    assert!(rt; room.payload() == second.as_slice());
+    let (store, found) = opened(rt, disk, room)?;
+    assert_eq!(rt; found, both(CopyState::Sound(1)));
+    assert!(rt; store.payload() == second.as_slice());
+    let (mut disk, mut room) = store.close();
+    assert!(rt; disk.len() == DISK_LEN);
+    assert_eq!(rt;
+        boot(&mut disk, &mut room),
+        Booted::Ready { found, sequence: 1 }
+    );
+    Ok(())
+}
+
+#[test]
+fn keeps_a_payload(rt: HostRuntime) -> Result<(), Fail> {
+    let zeros = vec![in rt.alloc(); 0; DISK_LEN as usize]?;
+    keeps(&rt, rt.alloc(), MemoryDisk::of(zeros, None))?;
+    keeps(&rt, rt.alloc(), MemoryLab::new(rt.alloc(), DISK_LEN)?)
+}
+
+// Whether the copy at this place of a disk is that of such a payload at sequence 0.
+fn is_spelled<D: Disk>(
+    rt: &impl Abort,
+    disk: &mut D,
+    at: u64,
+    copy: &mut [u8],
+    pages: &[u8],
+) -> bool {
+    assert!(rt; disk.len() == DISK_LEN);
+    assert!(rt; copy.len() == COPY_LEN);
+    assert!(rt; at <= COPY_LEN as u64);
+    disk.read(at, copy).is_ok()
+        && copy[..17] == HEADER[..]
+        && copy[17..49] == PAGE_0[..]
+        && copy[1009..1041] == PAGE_31[..]
+        && copy[1041..1073] == SEAL[..]
+        && copy[1073..] == pages[..]
+}
+
+#[test]
+fn spells_a_copy(rt: HostRuntime) -> Result<(), Fail> {
+    let pages = payload(rt.alloc(), 0)?;
+    let mut room = Room::new(rt.alloc())?;
+    room.payload_mut().copy_from_slice(&pages);
+    let zeros = vec![in rt.alloc(); 0; DISK_LEN as usize]?;
+    let (mut disk, _room) = made(&rt, MemoryDisk::of(zeros, None), room)?;
+    let mut copy = vec![in rt.alloc(); 0; COPY_LEN]?;
+    assert!(rt; is_spelled(&rt, &mut disk, 0, &mut copy, &pages));
+    assert!(rt; is_spelled(&rt, &mut disk, COPY_LEN as u64, &mut copy, &pages));
+    Ok(())
+}
+
+// How a copy is to be found: sound with a payload, or bad.
+#[derive(Clone, Copy, Debug, Drop)]
+struct Given {
+    state: CopyState,
+    first: u8,
+}
+
+fn sound(sequence: u64, first: u8) -> Given {
+    Given {
+        state: CopyState::Sound(sequence),
+        first,
+    }
+}
+
+fn bad(why: Why) -> Given {
+    Given {
+        state: CopyState::Bad(why),
+        first: 0,
+    }
+}
+
+// Such a copy.
+fn copy_of(alloc: Global, given: Given) -> Result<Vec<u8>, AllocError> {
+    let sequence = match given.state {
+        CopyState::Sound(sequence) => sequence,
+        CopyState::Bad(_) => 9,
+    };
+    let pages = payload(alloc, given.first)?;
+    let mut copy = vec![in alloc; 0xA5; COPY_LEN]?;
+    seal_body(LAYOUT, sequence, &pages, &mut copy[1..]);
+    match given.state {
+        CopyState::Sound(_) => {}
+        CopyState::Bad(Why::Shut) => copy[0] = 0,
+        CopyState::Bad(Why::BadHeader) => copy[6] ^= 1,
+        CopyState::Bad(Why::BadRoot) => copy[1041] ^= 1,
+        CopyState::Bad(Why::BadPage(page)) => copy[1073 + PAGE_LEN * (page % 32) as usize] ^= 1,
+    }
+    Ok(copy)
+}
+
+// The two copies, and the sequence and the payload that are booted.
+fn pairs() -> [(Given, Given, Option<(u64, u8)>); 9] {
+    [
+        (sound(4, 1), sound(4, 1), Some((4, 1))),
+        (sound(4, 1), sound(4, 2), None),
+        (sound(4, 1), sound(5, 2), Some((5, 2))),
+        (sound(5, 2), sound(4, 1), Some((5, 2))),
+        (bad(Why::Shut), sound(4, 1), Some((4, 1))),
+        (sound(4, 1), bad(Why::BadHeader), Some((4, 1))),
+        (bad(Why::BadRoot), sound(4, 1), Some((4, 1))),
+        (sound(4, 1), bad(Why::BadPage(3)), Some((4, 1))),
+        (bad(Why::Shut), bad(Why::BadPage(31)), None),
+    ]
+}
+
+// Whether this is booted, with this payload.
+fn boots_as<D: Disk>(
+    rt: &impl Abort,
+    alloc: Global,
+    disk: &mut D,
+    found: Found,
+    booted: Option<(u64, u8)>,
+) -> Result<bool, AllocError> {
+    assert!(rt; disk.len() == DISK_LEN);
+    let mut room = Room::new(alloc)?;
+    let answer = boot(disk, &mut room);
+    match booted {
+        None => Ok(answer == Booted::Lost(found)),
+        Some((sequence, first)) => {
+            let kept = payload(alloc, first)?;
+            Ok(answer == Booted::Ready { found, sequence } && room.payload()[..] == kept[..])
+        }
+    }
+}
+
+#[test]
+fn boots_the_later_sound_copy(rt: HostRuntime) -> Result<(), Fail> {
+    for (a, b, booted) in pairs() {
+        let mut bytes = copy_of(rt.alloc(), a)?;
+        bytes.extend_from_slice(&copy_of(rt.alloc(), b)?)?;
+        let mut disk = MemoryDisk::of(bytes, None);
+        let found = Found {
+            a: a.state,
+            b: b.state,
+        };
+        assert!(rt;
+            boots_as(&rt, rt.alloc(), &mut disk, found, booted)?,
+            "{a:?} {b:?}"
+        );
+    }
+    Ok(())
+}
+
+fn turned_on<L: LabDisk>(rt: &impl Abort, lab: &mut L) -> Result<(), Fail>
+    ensures { OnOk result (IsSynced (L.state lab.new)) }
+{
+    assert!(rt; !lab.powered());
+    Ok(lab.power_on()?)
+}
+
+fn arm<L: LabDisk>(rt: &impl Abort, lab: &mut L, count: u32, torn: u8) {
+    assert!(rt; lab.cuts_armed() < 256);
+    assert!(rt; count >= 1);
+    assert!(rt; torn <= 3);
+    lab.arm(CutUnit::Call, count, torn);
+}
+
+// A memory at sequence 1, whose next commit is cut at this of its calls. Tells what is found after it.
+fn cut_at<L: LabDisk + Drop>(
+    rt: &impl Abort,
+    alloc: Global,
+    lab: L,
+    count: u32,
+    torn: u8,
+) -> Result<(bool, Found), Fail> {
+    let (mut lab, room) = made(rt, lab, Room::new(alloc)?)?;
+    lab.power_off();
+    turned_on(rt, &mut lab)?;
+    let (mut store, _found) = opened(rt, lab, room)?;
+    assert!(rt; commit(rt, &mut store, &payload(alloc, 1)?));
+    let (mut lab, room) = store.close();
+    lab.power_off();
+    arm(rt, &mut lab, count, torn);
+    turned_on(rt, &mut lab)?;
+    let (mut store, _found) = opened(rt, lab, room)?;
+    let is_committed = commit(rt, &mut store, &payload(alloc, 2)?);
+    let (mut lab, mut room) = store.close();
+    lab.power_off();
+    turned_on(rt, &mut lab)?;
+    assert!(rt; lab.len() == DISK_LEN);
+    match boot(&mut lab, &mut room) {
+        Booted::Ready { found, sequence: _ } => Ok((is_committed, found)),
+        Booted::Lost(found) => Ok((is_committed, found)),
+        Booted::Off => Err(Fail::new("off in a boot")),
+    }
+}
+
+// What is found after a cut at call `count` of a commit to sequence 2, torn in this way.
+fn left_by(count: u32, torn: u8) -> Found {
+    let old = CopyState::Sound(1);
+    let new = CopyState::Sound(2);
+    let shut = CopyState::Bad(Why::Shut);
+    let is_new_byte = torn == 1;
+    let is_opened = torn == 1 || torn == 3;
+    match count {
+        1 | 2 => Found {
+            a: if is_new_byte { shut } else { old },
+            b: old,
+        },
+        3 | 4 => Found { a: shut, b: old },
+        5 | 6 => Found {
+            a: if is_opened { new } else { shut },
+            b: old,
+        },
+        7 | 8 => Found {
+            a: new,
+            b: if is_new_byte { shut } else { old },
+        },
+        9 | 10 => Found { a: new, b: shut },
+        11 | 12 => Found {
+            a: new,
+            b: if is_opened { new } else { shut },
+        },
+        _ => both(new),
+    }
+}
+
+#[test]
+fn a_cut_at_each_call_of_a_commit(rt: HostRuntime) -> Result<(), Fail> {
+    for torn in 0..4 {
+        for count in 1..14 {
+            let lab = MemoryLab::new(rt.alloc(), DISK_LEN)?;
+            let (is_committed, found) = cut_at(&rt, rt.alloc(), lab, count, torn)?;
+            assert_eq!(rt; is_committed, count == 13, "{count} {torn}");
+            assert_eq!(rt; found, left_by(count, torn), "{count} {torn}");
+        }
+    }
+    Ok(())
+}
