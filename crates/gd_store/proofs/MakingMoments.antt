@@ -1,7 +1,7 @@
 -- What each moment of a making leaves.
-use Rattle.std.proofs.Common.{◌≡◌, ◌≢◌, ◌⊎◌, inl, inr, ⊎_elim, ℕ, ◌+◌, ◌*◌, ◌^◌, ◌<◌, ◌≤◌, ◌==◌, if◌then◌else◌, Bool, true, false, [], ◌∷◌, List, length, get_or, refl, sym, ◌∙◌, ap, subst, arith, Option, Some, None}
+use Rattle.std.proofs.Common.{◌≡◌, ◌⊎◌, inl, inr, ⊎_elim, ℕ, ◌+◌, ◌*◌, ◌^◌, ◌<◌, ◌≤◌, ◌==◌, if◌then◌else◌, true, false, [], ◌∷◌, List, length, get_or, refl, sym, ◌∙◌, ap, subst, arith, Option, Some, None}
 use Rattle.std.proofs.lemmas.Bool.{cases_eq}
-use Rattle.gd_disk.specs.Disk.{DiskState, IfTold, IsSynced, Loses, Stands, Torn, written, seen_written}
+use Rattle.gd_disk.specs.Disk.{DiskState, IfTold, IsSynced, Loses, Stands, written, seen_written}
 use Rattle.gd_disk.specs.Runs.{LeavesOnly}
 use Rattle.gd_disk.proofs.Runs.{and_then, at_end, goes_on, weaker}
 use Rattle.gd_disk.proofs.Written.{byte_before, byte_behind, torn_refl, torn-written}

@@ -24,7 +24,7 @@ pub enum Made<D: Disk> {
 impl<D: Disk> Store<D> {
     /// Writes the room's payload to both copies at sequence 0, whatever the disk has: shuts the gates that are open,
     /// then writes and opens copy a, then copy b, by five syncs. The room keeps its payload. Where nothing waited for
-    /// a sync before, a copy is at each moment the old one, or shut, or the new one, and not the old one where another is new.
+    /// a sync before, each copy is the old one, or shut, or the new one at each moment, and none is new beside an old one.
     pub fn make(disk: D, room: Room) -> Made<D>
         requires size { (D.state disk).size ≡ DISK_LEN }
         ensures done { OnOk (made_outcome result) (IfTold (D.state (made_disk result)).seen (HoldsBoth LAYOUT 0 (room_payload room))) }

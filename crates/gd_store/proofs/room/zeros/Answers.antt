@@ -1,4 +1,4 @@
-use Rattle.std.proofs.Common.{rules, ◌≡◌, ◌∙◌, sym, ap, ℕ, List, length, replicate}
+use Rattle.std.proofs.Common.{rules, ◌≡◌, ◌∙◌, sym, ap, ℕ, length, replicate}
 use Rattle.std.proofs.lemmas.List.{length-replicate}
 use Rattle.gd_store.specs.Zeros.{AreZeros}
 use Rattle.gd_store.proofs.room.zeros.Goals as goal
