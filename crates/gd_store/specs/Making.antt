@@ -6,6 +6,7 @@ use Rattle.gd_store.specs.declared.layout.Layout.{Layout}
 use Rattle.gd_store.specs.declared.room.Room.{Room}
 use Rattle.gd_store.specs.declared.making.Made.{Made}
 
+-- the disk and the room that an answer holds
 abbrev pub made_disk : {D : Type 0} → Made D → D
 made_disk (Made.Done disk room) = disk
 made_disk (Made.Off disk room) = disk

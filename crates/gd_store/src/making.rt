@@ -85,6 +85,7 @@ fn shut_both<D: Disk>(disk: &mut D, layout: Layout) -> Result<(), Off>
     disk.sync()
 }
 
+// The byte of a gate.
 fn read_gate<D: Disk>(disk: &mut D, at: u64) -> Result<u8, Off>
     requires { at + 1 ≤ (D.state disk.old).size }
     ensures gate { IfOk result (λ gate. IfTold (D.state disk.old).seen (λ image. slice_index image at ≡ gate)) }

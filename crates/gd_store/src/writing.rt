@@ -1,6 +1,6 @@
 // Writes to a disk, each kept by a sync of its own.
-ghost use Rattle.std.specs.Prelude.{◌≡◌, ◌≤◌, ◌+◌, ◌<◌, ◌-◌, ◌^◌, ◌∷◌, List, ℕ, length, take, drop, OnOk, OnErr, true, false, IsTrue, ◌↔◌, if◌then◌else◌, slice_index, []};
-ghost use Rattle.gd_disk.specs.Disk.{IfTold, seen_written, Torn, Stands, IsSynced, Answers};
+ghost use Rattle.std.specs.Prelude.{◌≡◌, ◌≤◌, ◌+◌, ◌<◌, ◌^◌, ◌∷◌, length, OnOk, true, if◌then◌else◌, slice_index};
+ghost use Rattle.gd_disk.specs.Disk.{IfTold, seen_written, Torn, IsSynced, Answers};
 ghost use Rattle.gd_disk.specs.Runs.{LeavesOnly, CutsOfRun};
 ghost use Rattle.gd_store.specs.Writing.{seen_shut, IsShutting, IsShut, IsOverOpen, IsWriting, From, MadeSyncs};
 
