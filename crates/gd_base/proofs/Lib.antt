@@ -27,6 +27,7 @@ pub mod KeptBooks
 pub mod KeptOrder
 pub mod KeptCounts
 pub mod KeptHandpay
+pub mod KeptOpen
 pub mod OneSpelled
 pub mod Exact
 pub mod Whole
