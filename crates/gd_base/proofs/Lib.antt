@@ -4,6 +4,7 @@ pub mod Totals
 pub mod ChanceRows
 pub mod HistoryRows
 pub mod PayloadRows
+pub mod FullRows
 pub mod TextRows
 pub mod Digits
 pub mod Lines
