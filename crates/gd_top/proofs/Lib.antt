@@ -6,3 +6,7 @@ pub mod Equations
 pub mod Legal
 mod Examples
 mod Rows
+pub mod Reading
+pub mod Pieces
+pub mod Scripts
+pub mod Grammar

@@ -7,3 +7,6 @@ pub mod Items
 pub mod Life
 pub mod Legal
 pub mod Toy
+pub mod Grammar
+pub mod Script
+pub mod Reads

@@ -1,15 +1,20 @@
 //! The whole program: a script is carried out on a memory, and its report written.
 #![tactic(auto)]
 
+mod ahead;
 mod bill_core;
 mod bill_core_calls;
 mod books;
 mod checking;
+mod items;
 mod judging;
+pub mod laws;
+mod lines;
 mod payload_reading;
 mod payload_writing;
 mod promise;
 mod recording;
+mod report;
 mod showing;
 mod status;
 
