@@ -29,15 +29,18 @@ abbrev pub bill_of : Option ℕ → Option Item
 bill_of None = None
 bill_of (Some value) = Some (Item.Event (Event.Bill value))
 
--- whether a line begins with these bytes
+-- whether a line begins with a word, and what stands behind it
 abbrev pub begins_with : List ℕ → List ℕ → Bool
-begins_with front line = bytes_eq (take (length front) line) front
+begins_with word line = bytes_eq (take (length word) line) word
+
+abbrev pub behind : List ℕ → List ℕ → List ℕ
+behind word line = drop (length word) line
 
 -- the item that a line says; None where it is no line of the grammar
 unfoldable pub item_of : List ℕ → Option Item
 item_of line =
     if bytes_eq line (codes "show meters") then Some (Item.Show What.Meters)
-    else if begins_with (codes "bill ") line then bill_of (amount_of (drop 5 line))
+    else if begins_with (codes "bill ") line then bill_of (amount_of (behind (codes "bill ") line))
     else None
 
 -- ================ what a line looks like, by its item

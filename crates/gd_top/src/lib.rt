@@ -9,6 +9,8 @@ mod checking;
 mod items;
 mod judging;
 pub mod laws;
+#[cfg(test)]
+mod line_tests;
 mod lines;
 mod payload_reading;
 mod payload_writing;
