@@ -6,6 +6,7 @@ pub mod Equations
 pub mod Legal
 pub mod Reading
 pub mod Pieces
+pub mod Scripts
 pub mod Grammar
 pub mod Carried
 pub mod Events

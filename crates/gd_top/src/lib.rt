@@ -12,6 +12,9 @@ mod ended;
 mod giving;
 mod items;
 mod judging;
+pub mod laws;
+#[cfg(test)]
+mod line_tests;
 mod lines;
 mod lines_end;
 mod payload_reading;

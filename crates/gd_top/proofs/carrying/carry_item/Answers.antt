@@ -15,7 +15,7 @@ returns-in-Event-clause-carried g c =
     let B = g.W.Draws.block_of (cabinet_draws cabinet) in
     let v = g.C.Core.view (cabinet_core cabinet) in
     let w = g.C.Core.view (cabinet_core c.carry_event.new.cabinet) in
-    let event = c.in-Event.field-0.now in
+    let event = c.in-Event.event.now in
     let e = c.next_numbered-e.result in
     λ lines power_ons.
         as_at c.carry_event.result (event_told M B e) (item_told M B (Item.Event event)) v w lines lines power_ons _ _
@@ -28,7 +28,7 @@ returns-in-Show-clause-carried g c =
     let M = g.C.Core.meaning (cabinet_core cabinet) in
     let B = g.W.Draws.block_of (cabinet_draws cabinet) in
     let v = g.C.Core.view (cabinet_core cabinet) in
-    let what = c.in-Show.field-0.now in
+    let what = c.in-Show.what.now in
     let gives = subst (GivesText c.give_text.result _ _) c.show.ensures c.give_text.ensures.given in
     λ lines power_ons.
         said c.give_text.result (item_told M B (Item.Show what)) v v lines lines power_ons _ _ (M.text what v) stays (λ x whole. show_is M B what (at v lines power_ons x)) gives
