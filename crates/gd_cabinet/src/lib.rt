@@ -12,11 +12,10 @@ mod parts;
 mod stop;
 mod submitting;
 
-use gd_base::PAYLOAD_LEN;
-use gd_disk::{PAGE_COUNT, PAGE_LEN};
-
 pub use answer::Answer;
 pub use cabinet::Cabinet;
+use gd_base::PAYLOAD_LEN;
+use gd_disk::{PAGE_COUNT, PAGE_LEN};
 pub use locked::Locked;
 pub use opened::CabinetOpened;
 pub use parts::Parts;

@@ -173,11 +173,7 @@ impl<C: Core, D: Disk, W: Draws> Cabinet<C, D, W> {
                         found,
                         parts,
                     },
-                    Loaded::Differs { kept } => CabinetOpened::Differs {
-                        kept,
-                        found,
-                        parts,
-                    },
+                    Loaded::Differs { kept } => CabinetOpened::Differs { kept, found, parts },
                 }
             }
         }
