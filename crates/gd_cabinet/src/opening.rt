@@ -12,6 +12,7 @@ ghost use Rattle.gd_cabinet.specs.Shown.{shows, IsInBoth};
 ghost use Rattle.gd_cabinet.specs.Words.{cabinet_core, cabinet_disk, cabinet_lap, cabinet_stopped};
 
 use crate::beginning::{begin, load_at};
+use crate::cabinet::taken_apart;
 use crate::{Cabinet, CabinetOpened, Locked, Parts};
 use gd_base::{Core, Draws, Loaded};
 use gd_disk::{DISK_LEN, Disk};
@@ -36,6 +37,8 @@ fn open_store<C: Core, D: Disk, W: Draws>(
     ensures draws { (l i : ℕ) → W.block_of (draws_in result) l i ≡ W.block_of parts.draws l i }
     ensures not_shut { OnShut result (IfTold (D.state parts.disk).seen (λ image. ⊥)) }
     ensures not_unread { OnUnread result ⊥ }
+    ensures stays_on { OnShut result (((D.state (disk_in result)).is_on ≡ true) × ((D.state (disk_in result)).stops ≡ (D.state parts.disk).stops)
+        × ((D.state (disk_in result)).faults ≡ (D.state parts.disk).faults)) }
     ensures cause { OnOff result (Rose (D.state parts.disk).stops (D.state (disk_in result)).stops) }
     ensures is_off { OnOff result ((D.state (disk_in result)).is_on ≡ false) }
     ensures cut { OnOff result (IfTold (D.state parts.disk).seen (λ image. CutOrFaultIn (opening_syncs (C.meaning parts.core) image) (D.state parts.disk) (D.state (disk_in result)))) }
@@ -84,32 +87,16 @@ fn open_store<C: Core, D: Disk, W: Draws>(
                     parts,
                 },
             },
-            Loaded::Unreadable => {
-                let (disk, room) = store.close();
-                CabinetOpened::Locked {
-                    why: Locked::Unreadable,
-                    found,
-                    parts: Parts {
-                        core,
-                        disk,
-                        draws,
-                        room,
-                    },
-                }
-            }
-            Loaded::Differs { kept } => {
-                let (disk, room) = store.close();
-                CabinetOpened::Differs {
-                    kept,
-                    found,
-                    parts: Parts {
-                        core,
-                        disk,
-                        draws,
-                        room,
-                    },
-                }
-            }
+            Loaded::Unreadable => CabinetOpened::Locked {
+                why: Locked::Unreadable,
+                found,
+                parts: taken_apart(core, store, draws),
+            },
+            Loaded::Differs { kept } => CabinetOpened::Differs {
+                kept,
+                found,
+                parts: taken_apart(core, store, draws),
+            },
         },
     }
 }
@@ -130,7 +117,10 @@ impl<C: Core, D: Disk, W: Draws> Cabinet<C, D, W> {
         ensures both { OnReady result (λ cabinet found. (image : List ℕ) → (D.state (cabinet_disk cabinet)).may_find image → IsInBoth (C.meaning parts.core) (C.view (cabinet_core cabinet)) image) }
         ensures meaning { C.meaning (core_in result) ≡ C.meaning parts.core }
         ensures draws { (l i : ℕ) → W.block_of (draws_in result) l i ≡ W.block_of parts.draws l i }
-        ensures untouched { OnShut result (IfTold (D.state parts.disk).seen (λ image. ((D.state (disk_in result)).seen ≡ Some image) × ((D.state (disk_in result)).syncs ≡ (D.state parts.disk).syncs))) }
+        ensures untouched { OnShut result (IfTold (D.state parts.disk).seen (λ image. ((D.state (disk_in result)).seen ≡ Some image)
+            × ((D.state (disk_in result)).syncs ≡ (D.state parts.disk).syncs) × ((D.state (disk_in result)).armed ≡ (D.state parts.disk).armed))) }
+        ensures stays_on { OnShut result (((D.state (disk_in result)).is_on ≡ true) × ((D.state (disk_in result)).stops ≡ (D.state parts.disk).stops)
+            × ((D.state (disk_in result)).faults ≡ (D.state parts.disk).faults)) }
         ensures cause { OnOff result (Rose (D.state parts.disk).stops (D.state (disk_in result)).stops) }
         ensures is_off { OnOff result ((D.state (disk_in result)).is_on ≡ false) }
         ensures unread { OnUnread result (((D.state (disk_in result)).armed ≡ (D.state parts.disk).armed)
