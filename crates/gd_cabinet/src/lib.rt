@@ -11,6 +11,8 @@ mod opening;
 mod parts;
 mod stop;
 mod submitting;
+#[cfg(test)]
+mod tests;
 
 pub use answer::Answer;
 pub use cabinet::Cabinet;

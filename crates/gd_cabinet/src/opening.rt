@@ -18,7 +18,8 @@ use gd_base::{Core, Draws, Loaded};
 use gd_disk::{DISK_LEN, Disk};
 use gd_store::{Booted, Found, LAYOUT, Opened, Store, boot};
 
-// Opens the store of a memory that shows a view, and commits the start.
+// Opens the store of a memory that shows a view, and commits the start. The payload is loaded a second time, from the
+// store: only a disk that tells its content is sure to give the same bytes at both readings.
 fn open_store<C: Core, D: Disk, W: Draws>(
     parts: Parts<C, D, W>,
     lap: u64,
@@ -106,8 +107,9 @@ impl<C: Core, D: Disk, W: Draws> Cabinet<C, D, W> {
     /// copy where that is needed, and commits the start of the power supply under its next number. At 2^36 entries it
     /// adds no start. `lap` is the number of memories that this program run has cleared before.
     ///
-    /// Locked and Differs come where the memory shows no view under the core's setup; nothing is then written. Off comes
-    /// where a call to the disk failed.
+    /// Locked comes where the memory shows no view, and Differs where it shows one of another setup. Both are known before
+    /// anything is written. Off comes where a call to the disk failed. A repair makes three syncs, and the start six; what
+    /// the memory shows at each moment is what it showed before, or that with the start.
     pub fn open(parts: Parts<C, D, W>, lap: u64) -> CabinetOpened<C, D, W>
         requires size { (D.state parts.disk).size ≡ DISK_LEN }
         requires openable { IsOpenable (D.state parts.disk) }
