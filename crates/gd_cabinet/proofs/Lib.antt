@@ -1,0 +1,4 @@
+pub mod Cutting
+pub mod Moments
+pub mod OneEvent
+pub mod Showing

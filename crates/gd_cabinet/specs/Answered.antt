@@ -1,5 +1,5 @@
 -- What is answered to an event that is offered, what it leaves, and how many syncs that takes.
-use Rattle.std.specs.Prelude.{◌≡◌, ℕ, ◌+◌, Bool, true, false, List}
+use Rattle.std.specs.Prelude.{◌≡◌, ℕ, ◌+◌, Bool, true, false}
 use Rattle.gd_disk.specs.Disk.{DiskState}
 use Rattle.gd_disk.specs.Runs.{CutsLeft}
 use Rattle.gd_base.specs.Answer.{answer, after_answer}

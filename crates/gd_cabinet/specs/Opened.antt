@@ -1,8 +1,8 @@
 -- What the opening of a memory answers.
-use Rattle.std.specs.Prelude.{◌≡◌, ℕ, List, Option, Some, None, IfSome}
+use Rattle.std.specs.Prelude.{◌≡◌, ℕ, List, Some, None, IfSome}
 use Rattle.gd_base.specs.Machine.{Machine, Blocks}
 use Rattle.gd_base.specs.Opens.{at_sequence}
-use Rattle.gd_base.specs.Spelled.{Spelled, Shows, Foreign, Unreadable}
+use Rattle.gd_base.specs.Spelled.{Shows, Foreign, Unreadable}
 use Rattle.gd_store.specs.Copy.{boots, found_in}
 use Rattle.gd_store.specs.declared.layout.TheConstants.{LAYOUT}
 use Rattle.gd_store.specs.declared.found.Found.{Found}
@@ -10,7 +10,6 @@ use Rattle.gd_cabinet.specs.Opening.{started}
 use Rattle.gd_cabinet.specs.Shown.{shows}
 use Rattle.gd_cabinet.specs.Words.{cabinet_core, cabinet_disk, cabinet_draws}
 use Rattle.gd_cabinet.specs.declared.cabinet.Cabinet.{Cabinet}
-use Rattle.gd_cabinet.specs.declared.parts.Parts.{Parts}
 use Rattle.gd_cabinet.specs.declared.locked.Locked.{Locked}
 use Rattle.gd_cabinet.specs.declared.opened.CabinetOpened.{CabinetOpened}
 

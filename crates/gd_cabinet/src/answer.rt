@@ -12,7 +12,9 @@ pub enum Answer {
         count: u64,
     },
     /// The number is neither the device's last one nor the next, which is expected. Nothing changed.
-    OutOfStep { expected: u64 },
+    OutOfStep {
+        expected: u64,
+    },
     /// The number is the next one, and the history has 2^36 entries. Nothing changed.
     HistoryFull,
 }

@@ -11,6 +11,7 @@ ghost use Rattle.gd_cabinet.specs.Opening.{start_of, started};
 ghost use Rattle.gd_cabinet.specs.Shown.{ShowsEither, IsInBoth};
 ghost use Rattle.gd_cabinet.specs.Words.{cabinet_core, cabinet_disk, cabinet_draws, cabinet_lap, cabinet_stopped};
 
+use crate::cabinet::taken_apart;
 use crate::offering::offer;
 use crate::{Cabinet, Parts};
 use gd_base::{Core, Device, Draws, Event, Loaded, MOST_ENTRIES, Numbered, PAYLOAD_LEN};
@@ -94,14 +95,6 @@ pub(crate) fn begin<C: Core, D: Disk, W: Draws>(
                 lap,
             })
         }
-        Err(Off) => {
-            let (disk, room) = store.close();
-            Err(Parts {
-                core,
-                disk,
-                draws,
-                room,
-            })
-        }
+        Err(Off) => Err(taken_apart(core, store, draws)),
     }
 }

@@ -1,7 +1,10 @@
 // A core on a store.
-ghost use Rattle.std.specs.Prelude.{◌≡◌, not, true, false};
+ghost use Rattle.std.specs.Prelude.{◌≡◌, not, true, false, List, ℕ, Some};
 ghost use Rattle.std.specs.Coded.{Coded-set};
+ghost use Rattle.gd_disk.specs.Disk.{IsSynced};
 ghost use Rattle.gd_base.specs.Spelled.{Shows, coded_spelled};
+ghost use Rattle.gd_store.specs.Copy.{HoldsBoth};
+ghost use Rattle.gd_store.specs.declared.layout.TheConstants.{LAYOUT};
 ghost use Rattle.gd_store.specs.Words.{store_disk, store_payload, store_sequence, store_stopped};
 
 use crate::Parts;
@@ -23,10 +26,8 @@ pub struct Cabinet<C: Core, D: Disk, W: Draws> {
 }
 
 impl<C: Core, D: Disk, W: Draws> Cabinet<C, D, W> {
-    ghost use Rattle.std.specs.Prelude.{◌≡◌, List, ℕ, false};
-    ghost use Rattle.gd_disk.specs.Disk.{IsSynced};
     ghost use Rattle.gd_store.specs.Opened.{IsOpenable};
-    ghost use Rattle.gd_cabinet.specs.Shown.{IsInBoth};
+    ghost use Rattle.gd_cabinet.specs.Shown.{shows, IsInBoth};
     ghost use Rattle.gd_cabinet.specs.Words.{cabinet_core, cabinet_disk, cabinet_draws, cabinet_stopped};
 
     /// The core. After Off it is as before the event.
@@ -51,13 +52,25 @@ impl<C: Core, D: Disk, W: Draws> Cabinet<C, D, W> {
         ensures openable { IsOpenable (D.state result.disk) }
         ensures synced { cabinet_stopped self ≡ false → IsSynced (D.state result.disk) }
         ensures both { cabinet_stopped self ≡ false → (image : List ℕ) → (D.state result.disk).may_find image → IsInBoth (C.meaning result.core) (C.view result.core) image }
+        ensures shown { cabinet_stopped self ≡ false → (image : List ℕ) → (D.state result.disk).may_find image → shows (C.meaning result.core) image ≡ Shows (C.view result.core) }
     {
-        let (disk, room) = self.store.close();
-        Parts {
-            core: self.core,
-            disk,
-            draws: self.draws,
-            room,
-        }
+        taken_apart(self.core, self.store, self.draws)
+    }
+}
+
+// The parts of a core on a store.
+pub(crate) fn taken_apart<C, D: Disk, W>(core: C, store: Store<D>, draws: W) -> Parts<C, D, W>
+    ensures core { result.core ≡ core }
+    ensures disk { result.disk ≡ store_disk store }
+    ensures draws { result.draws ≡ draws }
+    ensures synced { store_stopped store ≡ false → IsSynced (D.state result.disk) }
+    ensures settled { store_stopped store ≡ false → (image : List ℕ) → (D.state result.disk).seen ≡ Some image → HoldsBoth LAYOUT (store_sequence store) (store_payload store) image }
+{
+    let (disk, room) = store.close();
+    Parts {
+        core,
+        disk,
+        draws,
+        room,
     }
 }

@@ -11,12 +11,13 @@ mod opening;
 mod parts;
 mod stop;
 mod submitting;
-
-use gd_base::PAYLOAD_LEN;
-use gd_disk::{PAGE_COUNT, PAGE_LEN};
+#[cfg(test)]
+mod tests;
 
 pub use answer::Answer;
 pub use cabinet::Cabinet;
+use gd_base::PAYLOAD_LEN;
+use gd_disk::{PAGE_COUNT, PAGE_LEN};
 pub use locked::Locked;
 pub use opened::CabinetOpened;
 pub use parts::Parts;

@@ -12,12 +12,14 @@ ghost use Rattle.gd_cabinet.specs.Shown.{shows, IsInBoth};
 ghost use Rattle.gd_cabinet.specs.Words.{cabinet_core, cabinet_disk, cabinet_lap, cabinet_stopped};
 
 use crate::beginning::{begin, load_at};
+use crate::cabinet::taken_apart;
 use crate::{Cabinet, CabinetOpened, Locked, Parts};
 use gd_base::{Core, Draws, Loaded};
 use gd_disk::{DISK_LEN, Disk};
 use gd_store::{Booted, Found, LAYOUT, Opened, Store, boot};
 
-// Opens the store of a memory that shows a view, and commits the start.
+// Opens the store of a memory that shows a view, and commits the start. The payload is loaded a second time, from the
+// store: only a disk that tells its content is sure to give the same bytes at both readings.
 fn open_store<C: Core, D: Disk, W: Draws>(
     parts: Parts<C, D, W>,
     lap: u64,
@@ -36,6 +38,8 @@ fn open_store<C: Core, D: Disk, W: Draws>(
     ensures draws { (l i : ℕ) → W.block_of (draws_in result) l i ≡ W.block_of parts.draws l i }
     ensures not_shut { OnShut result (IfTold (D.state parts.disk).seen (λ image. ⊥)) }
     ensures not_unread { OnUnread result ⊥ }
+    ensures stays_on { OnShut result (((D.state (disk_in result)).is_on ≡ true) × ((D.state (disk_in result)).stops ≡ (D.state parts.disk).stops)
+        × ((D.state (disk_in result)).faults ≡ (D.state parts.disk).faults)) }
     ensures cause { OnOff result (Rose (D.state parts.disk).stops (D.state (disk_in result)).stops) }
     ensures is_off { OnOff result ((D.state (disk_in result)).is_on ≡ false) }
     ensures cut { OnOff result (IfTold (D.state parts.disk).seen (λ image. CutOrFaultIn (opening_syncs (C.meaning parts.core) image) (D.state parts.disk) (D.state (disk_in result)))) }
@@ -84,32 +88,16 @@ fn open_store<C: Core, D: Disk, W: Draws>(
                     parts,
                 },
             },
-            Loaded::Unreadable => {
-                let (disk, room) = store.close();
-                CabinetOpened::Locked {
-                    why: Locked::Unreadable,
-                    found,
-                    parts: Parts {
-                        core,
-                        disk,
-                        draws,
-                        room,
-                    },
-                }
-            }
-            Loaded::Differs { kept } => {
-                let (disk, room) = store.close();
-                CabinetOpened::Differs {
-                    kept,
-                    found,
-                    parts: Parts {
-                        core,
-                        disk,
-                        draws,
-                        room,
-                    },
-                }
-            }
+            Loaded::Unreadable => CabinetOpened::Locked {
+                why: Locked::Unreadable,
+                found,
+                parts: taken_apart(core, store, draws),
+            },
+            Loaded::Differs { kept } => CabinetOpened::Differs {
+                kept,
+                found,
+                parts: taken_apart(core, store, draws),
+            },
         },
     }
 }
@@ -119,8 +107,9 @@ impl<C: Core, D: Disk, W: Draws> Cabinet<C, D, W> {
     /// copy where that is needed, and commits the start of the power supply under its next number. At 2^36 entries it
     /// adds no start. `lap` is the number of memories that this program run has cleared before.
     ///
-    /// Locked and Differs come where the memory shows no view under the core's setup; nothing is then written. Off comes
-    /// where a call to the disk failed.
+    /// Locked comes where the memory shows no view, and Differs where it shows one of another setup. Both are known before
+    /// anything is written. Off comes where a call to the disk failed. A repair makes three syncs, and the start six; what
+    /// the memory shows at each moment is what it showed before, or that with the start.
     pub fn open(parts: Parts<C, D, W>, lap: u64) -> CabinetOpened<C, D, W>
         requires size { (D.state parts.disk).size ≡ DISK_LEN }
         requires openable { IsOpenable (D.state parts.disk) }
@@ -130,7 +119,10 @@ impl<C: Core, D: Disk, W: Draws> Cabinet<C, D, W> {
         ensures both { OnReady result (λ cabinet found. (image : List ℕ) → (D.state (cabinet_disk cabinet)).may_find image → IsInBoth (C.meaning parts.core) (C.view (cabinet_core cabinet)) image) }
         ensures meaning { C.meaning (core_in result) ≡ C.meaning parts.core }
         ensures draws { (l i : ℕ) → W.block_of (draws_in result) l i ≡ W.block_of parts.draws l i }
-        ensures untouched { OnShut result (IfTold (D.state parts.disk).seen (λ image. ((D.state (disk_in result)).seen ≡ Some image) × ((D.state (disk_in result)).syncs ≡ (D.state parts.disk).syncs))) }
+        ensures untouched { OnShut result (IfTold (D.state parts.disk).seen (λ image. ((D.state (disk_in result)).seen ≡ Some image)
+            × ((D.state (disk_in result)).syncs ≡ (D.state parts.disk).syncs) × ((D.state (disk_in result)).armed ≡ (D.state parts.disk).armed))) }
+        ensures stays_on { OnShut result (((D.state (disk_in result)).is_on ≡ true) × ((D.state (disk_in result)).stops ≡ (D.state parts.disk).stops)
+            × ((D.state (disk_in result)).faults ≡ (D.state parts.disk).faults)) }
         ensures cause { OnOff result (Rose (D.state parts.disk).stops (D.state (disk_in result)).stops) }
         ensures is_off { OnOff result ((D.state (disk_in result)).is_on ≡ false) }
         ensures unread { OnUnread result (((D.state (disk_in result)).armed ≡ (D.state parts.disk).armed)
@@ -173,11 +165,7 @@ impl<C: Core, D: Disk, W: Draws> Cabinet<C, D, W> {
                         found,
                         parts,
                     },
-                    Loaded::Differs { kept } => CabinetOpened::Differs {
-                        kept,
-                        found,
-                        parts,
-                    },
+                    Loaded::Differs { kept } => CabinetOpened::Differs { kept, found, parts },
                 }
             }
         }

@@ -1,0 +1,49 @@
+use Rattle.gd_store.specs.Words.{store_disk, store_payload, store_sequence}
+use Rattle.gd_cabinet.specs.Words.{cabinet_disk}
+use Rattle.gd_cabinet.proofs.Cutting.{start_failed, repair_failed, all_made}
+use Rattle.gd_cabinet.proofs.Moments.{repair_moments, opening_moments}
+use Rattle.gd_cabinet.proofs.Showing.{loaded_shows, told_maps}
+use Rattle.gd_cabinet.proofs.opening.open_store.Goals as goal
+
+pub returns-in-Off-clause-any_moment : goal.returns-in-Off-clause-any_moment
+returns-in-Off-clause-any_moment g c =
+    repair_moments (g.C.Core.meaning c.args.parts.core) (g.W.Draws.block_of c.args.parts.draws) c.args.lap (g.D.Disk.state c.args.parts.disk) (g.D.Disk.state c.in-Off.disk) c.in-Off.ensures.any_moment
+
+pub returns-in-Ok-clause-any_moment : goal.returns-in-Ok-clause-any_moment
+returns-in-Ok-clause-any_moment g c =
+    let M = g.C.Core.meaning c.args.parts.core in
+    let store = c.in-Ready.store in
+    let v = g.C.Core.view c.load_at.new.core in
+    let s0 = g.D.Disk.state c.args.parts.disk in
+    let show = loaded_shows M c.sequence.result (store_sequence store) c.payload.result.now (store_payload store) c.load_at.result v c.sequence.ensures.value c.payload.ensures.value c.load_at.ensures.answer c.in-Read.is c.load_at.ensures.view in
+    opening_moments M (g.C.Core.meaning c.load_at.new.core) (g.W.Draws.block_of c.args.parts.draws) c.args.lap v s0 (g.D.Disk.state (store_disk store)) (g.D.Disk.state (cabinet_disk c.in-Ok.cabinet)) c.load_at.ensures.same c.in-Ready.ensures.any_moment c.in-Ok.ensures.any_moment
+    (told_maps s0.seen _ _ (λ image is. show image is.1) c.in-Ready.ensures.ready)
+
+pub returns-in-Err-clause-any_moment : goal.returns-in-Err-clause-any_moment
+returns-in-Err-clause-any_moment g c =
+    let M = g.C.Core.meaning c.args.parts.core in
+    let store = c.in-Ready.store in
+    let v = g.C.Core.view c.load_at.new.core in
+    let s0 = g.D.Disk.state c.args.parts.disk in
+    let show = loaded_shows M c.sequence.result (store_sequence store) c.payload.result.now (store_payload store) c.load_at.result v c.sequence.ensures.value c.payload.ensures.value c.load_at.ensures.answer c.in-Read.is c.load_at.ensures.view in
+    opening_moments M (g.C.Core.meaning c.load_at.new.core) (g.W.Draws.block_of c.args.parts.draws) c.args.lap v s0 (g.D.Disk.state (store_disk store)) (g.D.Disk.state c.in-Err.parts.disk) c.load_at.ensures.same c.in-Ready.ensures.any_moment c.in-Err.ensures.off_any_moment
+    (told_maps s0.seen _ _ (λ image is. show image is.1) c.in-Ready.ensures.ready)
+
+pub returns-in-Ok-clause-made : goal.returns-in-Ok-clause-made
+returns-in-Ok-clause-made g c =
+    let M = g.C.Core.meaning c.args.parts.core in
+    let store = c.in-Ready.store in
+    let v = g.C.Core.view c.load_at.new.core in
+    let show = loaded_shows M c.sequence.result (store_sequence store) c.payload.result.now (store_payload store) c.load_at.result v c.sequence.ensures.value c.payload.ensures.value c.load_at.ensures.answer c.in-Read.is c.load_at.ensures.view in
+    all_made M (g.C.Core.meaning c.load_at.new.core) c.in-Ready.found (store_sequence store) (store_payload store) v (g.D.Disk.state c.args.parts.disk) (g.D.Disk.state (store_disk store)) (g.D.Disk.state (cabinet_disk c.in-Ok.cabinet)) c.load_at.ensures.same c.in-Ready.ensures.ready show c.in-Ready.ensures.repaired c.in-Ready.ensures.cuts.0 c.in-Ready.ensures.cuts.1 c.in-Ok.ensures.made
+
+pub returns-in-Err-clause-cut : goal.returns-in-Err-clause-cut
+returns-in-Err-clause-cut g c =
+    let M = g.C.Core.meaning c.args.parts.core in
+    let store = c.in-Ready.store in
+    let v = g.C.Core.view c.load_at.new.core in
+    let show = loaded_shows M c.sequence.result (store_sequence store) c.payload.result.now (store_payload store) c.load_at.result v c.sequence.ensures.value c.payload.ensures.value c.load_at.ensures.answer c.in-Read.is c.load_at.ensures.view in
+    start_failed M (g.C.Core.meaning c.load_at.new.core) c.in-Ready.found (store_sequence store) (store_payload store) v (g.D.Disk.state c.args.parts.disk) (g.D.Disk.state (store_disk store)) (g.D.Disk.state c.in-Err.parts.disk) c.load_at.ensures.same c.in-Ready.ensures.ready show c.in-Ready.ensures.cuts.0 c.in-Ready.ensures.cuts.1 c.in-Err.ensures.cut
+
+pub returns-in-Off-clause-cut : goal.returns-in-Off-clause-cut
+returns-in-Off-clause-cut g c = repair_failed (g.C.Core.meaning c.args.parts.core) (g.D.Disk.state c.args.parts.disk) (g.D.Disk.state c.in-Off.disk) c.requires.is_on c.in-Off.ensures.cut

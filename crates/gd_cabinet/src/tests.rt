@@ -1,0 +1,369 @@
+// What no clause says: that the calls succeed, and at which calls of the disk they fail. The core only counts.
+ghost use Rattle.std.specs.Prelude.{◌≡◌, ◌≢◌, ◌+◌, ◌-◌, ◌≤◌, ◌^◌, ◌==◌, nat_le, if◌then◌else◌, ℕ, [], take, replicate, refl, false, IfOk, OnOk};
+ghost use Rattle.std.specs.Coded.{coded_ℕ};
+ghost use Rattle.std.specs.Int.{w64, from_be_bytes};
+ghost use Rattle.gd_disk.specs.Disk.{IsSynced};
+ghost use Rattle.gd_base.specs.Spelled.{Shows, Foreign, Unreadable};
+ghost use Rattle.gd_store.specs.Opened.{IsOpenable};
+
+use crate::{Answer, Cabinet, CabinetOpened, Locked, Parts, Stop};
+use gd_base::{
+    Block, Core, Device, Event, ListDraws, Loaded, MOST_ENTRIES, Numbered, Reply, Stepped, Text,
+    What,
+};
+use gd_disk::{CutUnit, DISK_LEN, Disk, LabDisk, MemoryDisk, MemoryLab};
+use gd_store::{CopyState, Found, Made, Room, Store};
+use std::alloc::Global;
+use std::process::Abort;
+use std::test::Fail;
+
+// The number of entries, which is the last number of each device too. A payload begins with it.
+#[derive(Drop)]
+struct Tally {
+    count: u64,
+    ghost room: { count ≤ 2 ^ 36 },
+}
+
+impl Core for Tally {
+    ghost View = { ℕ };
+
+    ghost coded = { coded_ℕ };
+
+    ghost meaning = { λ t. record {
+      digest = [];
+      empty = 0;
+      effect = λ v e. v + 1;
+      same = λ v w. v == w;
+      count = λ v. v;
+      last = λ v d. v;
+      kept = λ v d. Reply.Taken;
+      rule = λ v e. Reply.Taken;
+      is_drawn = λ v e. false;
+      index = λ v. v;
+      open_order = λ v. 0;
+      text = λ what v. [];
+      credit = λ v. 0;
+      spelled = λ p. if nat_le (from_be_bytes w64 (take 8 p)) (2 ^ 36) then Shows (from_be_bytes w64 (take 8 p))
+          else if from_be_bytes w64 (take 8 p) == 2 ^ 64 - 1 then Foreign (replicate 32 7) else Unreadable;
+      count_empty = refl;
+      count_effect = λ v e. refl;
+    } };
+
+    ghost view = { λ t. t.count };
+
+    fn needs_draw(&self, e: &Numbered) -> bool {
+        let _e = e;
+        false
+    }
+
+    fn draw_index(&self) -> u64 {
+        self.count
+    }
+
+    #[tactic(auto, unfolding(gd_base::specs::Answer::answer))]
+    fn step(&mut self, e: &Numbered, draw: Option<(u64, Block)>) -> Stepped {
+        let _draw = draw;
+        if self.count != 0 && e.number == self.count {
+            return Stepped::Again(Reply::Taken);
+        }
+        if e.number != self.count + 1 {
+            return Stepped::OutOfStep {
+                expected: self.count + 1,
+            };
+        }
+        if self.count >= MOST_ENTRIES {
+            return Stepped::HistoryFull;
+        }
+        self.count += 1;
+        Stepped::New(Reply::Taken)
+    }
+
+    fn write_image(&self, image: &mut [u8]) {
+        image[..8].copy_from_slice(&self.count.to_be_bytes());
+    }
+
+    fn load(&mut self, image: &[u8]) -> Loaded {
+        let mut bytes = [0; 8];
+        bytes.copy_from_slice(&image[..8]);
+        let count = u64::from_be_bytes(bytes);
+        if count <= MOST_ENTRIES {
+            self.count = count;
+            return Loaded::Read;
+        }
+        self.count = 0;
+        if count == u64::MAX {
+            Loaded::Differs { kept: [7; 32] }
+        } else {
+            Loaded::Unreadable
+        }
+    }
+
+    fn clear(&mut self) {
+        self.count = 0;
+    }
+
+    fn count(&self) -> u64 {
+        self.count
+    }
+
+    fn last(&self, device: Device) -> u64 {
+        let _device = device;
+        self.count
+    }
+
+    fn open_order(&self) -> u64 {
+        0
+    }
+
+    fn show(&self, what: What, into: &mut Text) {
+        let _what = what;
+        into.clear();
+    }
+}
+
+type Tallied<D> = Parts<Tally, D, ListDraws>;
+
+// A memory of this count at sequence 0.
+fn made<D: Disk + Drop>(
+    rt: &impl Abort,
+    alloc: Global,
+    disk: D,
+    count: u64,
+) -> Result<Tallied<D>, Fail>
+    ensures { IfOk result (λ parts. IsOpenable (D.state parts.disk)) }
+{
+    let mut room = Room::new(alloc)?;
+    let payload = room.payload_mut();
+    payload[..8].copy_from_slice(&count.to_be_bytes());
+    assert!(rt; disk.len() == DISK_LEN);
+    match Store::make(disk, room) {
+        Made::Done { disk, room } => Ok(Parts {
+            core: Tally { count: 9 },
+            disk,
+            draws: ListDraws::of(Vec::new(alloc)),
+            room,
+        }),
+        Made::Off { disk: _, room: _ } => Err(Fail::new("off while a memory was made")),
+    }
+}
+
+fn opened<D: Disk + Drop>(rt: &impl Abort, parts: Tallied<D>) -> CabinetOpened<Tally, D, ListDraws>
+    requires { IsOpenable (D.state parts.disk) }
+{
+    assert!(rt; parts.disk.len() == DISK_LEN);
+    Cabinet::open(parts, 0)
+}
+
+// A cabinet with this count after its start, over copies that were found so.
+fn ready<D: Disk + Drop>(
+    rt: &impl Abort,
+    parts: Tallied<D>,
+    was: Found,
+    count: u64,
+) -> Result<Cabinet<Tally, D, ListDraws>, Fail>
+    requires { IsOpenable (D.state parts.disk) }
+{
+    match opened(rt, parts) {
+        CabinetOpened::Ready { cabinet, found } => {
+            assert_eq!(rt; found, was);
+            assert_eq!(rt; cabinet.core().count(), count);
+            Ok(cabinet)
+        }
+        _ => Err(Fail::new("not ready")),
+    }
+}
+
+fn both(sequence: u64) -> Found {
+    Found {
+        a: CopyState::Sound(sequence),
+        b: CopyState::Sound(sequence),
+    }
+}
+
+fn bill(number: u64) -> Numbered
+    ensures { result.event ≢ Event.Start }
+{
+    Numbered {
+        number,
+        event: Event::Bill { value: 500 },
+    }
+}
+
+fn ack(again: bool, count: u64) -> Answer {
+    Answer::Ack {
+        reply: Reply::Taken,
+        again,
+        count,
+    }
+}
+
+fn keeps<D: Disk + Drop>(rt: &impl Abort, alloc: Global, disk: D) -> Result<(), Fail> {
+    let mut cabinet = ready(rt, made(rt, alloc, disk, 0)?, both(0), 1)?;
+    assert_eq!(rt; cabinet.submit(&bill(2)), Ok(ack(false, 2)));
+    assert_eq!(rt; cabinet.submit(&bill(2)), Ok(ack(true, 2)));
+    assert_eq!(rt;
+        cabinet.submit(&bill(9)),
+        Ok(Answer::OutOfStep { expected: 3 })
+    );
+    assert_eq!(rt; cabinet.stops(), 0);
+    let _again = ready(rt, cabinet.close(), both(2), 3)?;
+    Ok(())
+}
+
+#[test]
+fn keeps_events(rt: HostRuntime) -> Result<(), Fail> {
+    let zeros = vec![in rt.alloc(); 0; DISK_LEN as usize]?;
+    keeps(&rt, rt.alloc(), MemoryDisk::of(zeros, None))?;
+    keeps(&rt, rt.alloc(), MemoryLab::new(rt.alloc(), DISK_LEN)?)
+}
+
+// What a memory made by 11 calls of the disk does whose disk fails at this call after them. An opening makes four reads, and
+// a commit six writes and six syncs.
+fn fails_at<D: Disk + Drop>(
+    rt: &impl Abort,
+    alloc: Global,
+    disk: D,
+    call: u64,
+) -> Result<(), Fail> {
+    match opened(rt, made(rt, alloc, disk, 0)?) {
+        CabinetOpened::Off { found, parts: _ } => {
+            assert!(rt; call <= 16);
+            assert_eq!(rt; found.is_none(), call <= 2);
+        }
+        CabinetOpened::Ready { cabinet, found: _ } => {
+            let mut cabinet = cabinet;
+            assert!(rt; call > 16);
+            if call <= 28 {
+                assert_eq!(rt; cabinet.submit(&bill(2)), Err(Stop::Off));
+                assert_eq!(rt; cabinet.core().count(), 1);
+                assert_eq!(rt; cabinet.submit(&bill(2)), Err(Stop::Stopped));
+                assert_eq!(rt; cabinet.stops(), 1);
+            } else {
+                assert_eq!(rt; cabinet.submit(&bill(2)), Ok(ack(false, 2)));
+            }
+        }
+        _ => return Err(Fail::new("shut")),
+    }
+    Ok(())
+}
+
+#[test]
+fn stops_where_the_disk_fails(rt: HostRuntime) -> Result<(), Fail> {
+    for call in 1..31 {
+        let zeros = vec![in rt.alloc(); 0; DISK_LEN as usize]?;
+        let disk = MemoryDisk::of(zeros, Some(11 + call));
+        fails_at(&rt, rt.alloc(), disk, call)?;
+    }
+    Ok(())
+}
+
+fn is_unreadable<D: Disk + Drop>(rt: &impl Abort, parts: Tallied<D>) -> bool
+    requires { IsOpenable (D.state parts.disk) }
+{
+    match opened(rt, parts) {
+        CabinetOpened::Locked {
+            why,
+            found,
+            parts: _,
+        } => why == Locked::Unreadable && found == both(0),
+        _ => false,
+    }
+}
+
+#[test]
+fn shuts_a_memory_of_no_view(rt: HostRuntime) -> Result<(), Fail> {
+    let lab = MemoryLab::new(rt.alloc(), DISK_LEN)?;
+    assert!(rt;
+        is_unreadable(&rt, made(&rt, rt.alloc(), lab, 5)?),
+        "another count"
+    );
+    let lab = MemoryLab::new(rt.alloc(), DISK_LEN)?;
+    assert!(rt;
+        is_unreadable(&rt, made(&rt, rt.alloc(), lab, 1 << 40)?),
+        "no view"
+    );
+    let lab = MemoryLab::new(rt.alloc(), DISK_LEN)?;
+    match opened(&rt, made(&rt, rt.alloc(), lab, u64::MAX)?) {
+        CabinetOpened::Differs {
+            kept,
+            found,
+            parts: _,
+        } => {
+            assert_eq!(rt; kept, [7; 32]);
+            assert_eq!(rt; found, both(0));
+        }
+        _ => return Err(Fail::new("of the same setup")),
+    }
+    Ok(())
+}
+
+fn turned_on<L: LabDisk>(rt: &impl Abort, lab: &mut L) -> Result<(), Fail>
+    ensures { OnOk result (IsSynced (L.state lab.new)) }
+{
+    assert!(rt; !lab.powered());
+    Ok(lab.power_on()?)
+}
+
+fn arm<L: LabDisk>(rt: &impl Abort, lab: &mut L, count: u32, torn: u8) {
+    assert!(rt; lab.cuts_armed() < 256);
+    assert!(rt; count >= 1);
+    assert!(rt; torn <= 3);
+    lab.arm(CutUnit::Sync, count, torn);
+}
+
+// The start has six syncs, so that the cut comes at the third of the bill, which opens copy a.
+fn cut_between_copies<L: LabDisk + Drop>(
+    rt: &impl Abort,
+    alloc: Global,
+    lab: L,
+) -> Result<(), Fail> {
+    let Parts {
+        core,
+        mut disk,
+        draws,
+        room,
+    } = made(rt, alloc, lab, 0)?;
+    disk.power_off();
+    arm(rt, &mut disk, 9, 1);
+    turned_on(rt, &mut disk)?;
+    let mut cabinet = ready(
+        rt,
+        Parts {
+            core,
+            disk,
+            draws,
+            room,
+        },
+        both(0),
+        1,
+    )?;
+    assert_eq!(rt; cabinet.submit(&bill(2)), Err(Stop::Off));
+    let Parts {
+        core,
+        mut disk,
+        draws,
+        room,
+    } = cabinet.close();
+    turned_on(rt, &mut disk)?;
+    let was = Found {
+        a: CopyState::Sound(2),
+        b: CopyState::Sound(1),
+    };
+    let _again = ready(
+        rt,
+        Parts {
+            core,
+            disk,
+            draws,
+            room,
+        },
+        was,
+        3,
+    )?;
+    Ok(())
+}
+
+#[test]
+fn a_cut_between_the_copies(rt: HostRuntime) -> Result<(), Fail> {
+    cut_between_copies(&rt, rt.alloc(), MemoryLab::new(rt.alloc(), DISK_LEN)?)
+}
