@@ -240,6 +240,10 @@ module _ {V : Type 0} (M : Machine V) (B : Blocks) where
   pub lines_none : (v : V) (p : ℕ) (taken left : Option (List ℕ)) (waits : List ℕ) → waits ≡ [] → CarriedLines M B v v 0 p taken taken left (prepend_known waits left)
   lines_none v p taken left waits e = record { came = []; consumed = none_consumed waits left e; whole = refl; carried = carried_none (lines_told M B []) v 0 p taken (λ s. refl) }
 
+  -- how many lines there were, by another name
+  pub lines_many : (a b : V) (m n p : ℕ) (taken given left ahead : Option (List ℕ)) → m ≡ n → CarriedLines M B a b m p taken given left ahead → CarriedLines M B a b n p taken given left ahead
+  lines_many a b m n p taken given left ahead e k = subst (λ (l : ℕ). CarriedLines M B a b l p taken given left ahead) e k
+
   -- a line past the last that is allowed: whatever it is
   past_by : (l : Option Item) (v : V) (n p : ℕ) (x : Unseen V) → nat_lt n 1000000 ≡ false → line_told M B l (at v n p x) ≡ ends Stops [] (at v n p x)
   past_by None v n p x full = refl

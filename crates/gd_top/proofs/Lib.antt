@@ -13,5 +13,6 @@ pub mod Events
 pub mod Opening
 pub mod OneLine
 pub mod Exits
+pub mod Alike
 mod Examples
 mod Rows

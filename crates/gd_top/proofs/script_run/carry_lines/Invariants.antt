@@ -12,8 +12,8 @@ invariant-loop-lines g l =
     let M = g.C.Core.meaning (cabinet_core l.fn.cabinet) in
     let B = g.W.Draws.block_of (cabinet_draws l.fn.cabinet) in
     let core = cabinet_core l.cabinet in
-    let disk = g.L.LabDisk.state (cabinet_disk l.cabinet) in
-    let first = g.L.LabDisk.state (cabinet_disk l.fn.cabinet) in
+    let disk = g.L.Disk.state (cabinet_disk l.cabinet) in
+    let first = g.L.Disk.state (cabinet_disk l.fn.cabinet) in
     record {
       carried : (p : ℕ) → CarriedLines M B (g.C.Core.view (cabinet_core l.fn.cabinet)) (g.C.Core.view core) l.lines p (g.K.Sink.taken l.fn.output) (g.K.Sink.taken l.output) (g.S.Source.left l.fn.input) (prepend_known l.ahead (g.S.Source.left l.input));
       running : IsRunning disk (cabinet_stopped l.cabinet) (cabinet_lap l.cabinet);
