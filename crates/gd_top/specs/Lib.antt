@@ -15,3 +15,5 @@ pub mod LinesDone
 pub mod Grammar
 pub mod Script
 pub mod Reads
+pub mod Memory
+pub mod Trial

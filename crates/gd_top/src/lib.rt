@@ -12,11 +12,13 @@ mod ended;
 mod giving;
 mod items;
 mod judging;
+mod last_line;
 pub mod laws;
 #[cfg(test)]
 mod line_tests;
 mod lines;
 mod lines_end;
+mod memory;
 mod payload_reading;
 mod payload_writing;
 mod promise;

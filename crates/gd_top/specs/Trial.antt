@@ -1,0 +1,115 @@
+-- What a whole trial wrote and left, by its status. Each fact speaks of what is told, on one side, and on the other of what the
+-- sink took and of the images that may be found.
+use Rattle.std.specs.Prelude.{◌≡◌, ◌⊎◌, ℕ, ◌+◌, List, [], ◌++◌, map, codes, decimal, Option, None}
+use Rattle.std.specs.Io.KnownBytes.{Appends, Consumes}
+use Rattle.gd_base.specs.declared.step.Numbered.{Numbered}
+use Rattle.gd_base.specs.Causes.{AppendsFront}
+use Rattle.gd_base.specs.Machine.{Machine, Blocks}
+use Rattle.gd_cabinet.specs.Answered.{offered}
+use Rattle.gd_cabinet.specs.Shown.{spelled_boot, IsInBoth, ShowsEither}
+use Rattle.gd_disk.specs.Disk.{DiskState, IsSynced}
+use Rattle.gd_script.specs.declared.item.Item.{Item}
+use Rattle.gd_store.specs.Copy.{boots, found_in}
+use Rattle.gd_store.specs.declared.layout.TheConstants.{LAYOUT}
+use Rattle.gd_top.specs.Life.{trial_told, report_of, report_at_read_fault, status_of}
+use Rattle.gd_top.specs.Script.{script_of, whole_lines}
+use Rattle.gd_top.specs.State.{Start, Told, Goes, Breaks}
+use Rattle.gd_top.specs.declared.lines_end.LinesEnd.{LinesEnd}
+use Rattle.gd_top.specs.declared.status.Status.{Status}
+
+-- ================ what the power-ons found
+
+-- what a power-on finds in an image: the two copies, and what is booted with what its payload spells
+abbrev pub start_in : {V : Type 0} → Machine V → List ℕ → Start V
+start_in M image = record { found = found_in LAYOUT image; boots = spelled_boot M (boots LAYOUT image) }
+
+-- image by image
+abbrev pub starts_in : {V : Type 0} → Machine V → List (List ℕ) → List (Start V)
+starts_in M images = map (start_in M) images
+
+-- ================ how a trial ended
+
+-- The whole report was written, with its last line, and the run is told to end with this status, all that was found being
+-- used up. Each image that may be found has the view that is told in both copies, and nothing waits for a sync.
+pub record WroteReport {V : Type 0} (M : Machine V) (B : Blocks) (status : Status) (script : List ℕ) (taken given : Option (List ℕ)) (disk : DiskState) : Type 0 where
+  pub run : Told V
+  pub is_run : run ≡ trial_told M B (script_of script) [] (starts_in M disk.found) None
+  pub ended : status_of run.outcome run.state ≡ status
+  pub written : Appends taken given (report_of M run)
+  pub used_up : run.state.starts ≡ []
+  pub left : (image : List ℕ) → disk.may_find image → IsInBoth M run.state.view image
+  pub synced : IsSynced disk
+
+-- The source failed. The lines whose LF was taken were carried out, whatever stands behind them.
+pub record WroteToFault {V : Type 0} (M : Machine V) (B : Blocks) (script : List ℕ) (rest taken given : Option (List ℕ)) (disk : DiskState) : Type 0 where
+  pub came : List ℕ
+  pub consumed : Consumes (Option.Some script) rest came
+  pub begins : (more : List ℕ) → (others : List (Option Item)) × (script_of (came ++ more) ≡ whole_lines came ++ others)
+  pub run : Told V
+  pub is_run : run ≡ trial_told M B (whole_lines came) [] (starts_in M disk.found) None
+  pub goes : run.outcome ≡ Goes
+  pub written : Appends taken given (report_at_read_fault run)
+  pub used_up : run.state.starts ≡ []
+  pub left : (image : List ℕ) → disk.may_find image → IsInBoth M run.state.view image
+  pub synced : IsSynced disk
+
+-- a run of the first lines of a script, over the first of what was found, in which the disk may fail
+pub record FirstLines {V : Type 0} (M : Machine V) (B : Blocks) (script : List ℕ) (found : List (List ℕ)) : Type 0 where
+  pub lines : List (Option Item)
+  pub begins : (others : List (Option Item)) × (script_of script ≡ lines ++ others)
+  pub starts : List (Start V)
+  pub of_found : (later : List (Start V)) × (starts_in M found ≡ starts ++ later)
+  pub broken_at : Option ℕ
+  pub run : Told V
+  pub is_run : run ≡ trial_told M B lines [] starts broken_at
+
+-- Each image that may be found shows the view that is told, or that after one event more, which was offered. Before the
+-- memory was opened nothing is said of it.
+abbrev pub LeftBy : {V : Type 0} → Machine V → Blocks → Told V → DiskState → Type 0
+LeftBy M B run disk =
+    (run.state.power_ons ≡ 0)
+    ⊎ ((image : List ℕ) → disk.may_find image → (e : Numbered) × ShowsEither M run.state.view (offered M B 0 run.state.view e) image)
+
+-- The disk failed: what is told up to there was written.
+pub record WroteBroken {V : Type 0} (M : Machine V) (B : Blocks) (script : List ℕ) (taken given : Option (List ℕ)) (disk : DiskState) : Type 0 where
+  pub first : FirstLines M B script disk.found
+  pub breaks : first.run.outcome ≡ Breaks
+  pub written : Appends taken given (report_of M first.run)
+  pub left : LeftBy M B first.run disk
+
+-- The sink failed: a front of what is told was written.
+pub record WroteFront {V : Type 0} (M : Machine V) (B : Blocks) (script : List ℕ) (taken given : Option (List ℕ)) (disk : DiskState) : Type 0 where
+  pub first : FirstLines M B script disk.found
+  pub written : AppendsFront taken given (report_of M first.run) ⊎ AppendsFront taken given (report_at_read_fault first.run)
+  pub left : LeftBy M B first.run disk
+
+-- by the status; no other comes
+abbrev pub RunDone : {V : Type 0} → Machine V → Blocks → Status → (script : List ℕ) → (rest taken given : Option (List ℕ)) → DiskState → Type 0
+RunDone M B Status.Done script rest taken given disk = WroteReport M B Status.Done script taken given disk
+RunDone M B Status.ScriptFault script rest taken given disk = WroteReport M B Status.ScriptFault script taken given disk
+RunDone M B Status.ReadFault script rest taken given disk = WroteToFault M B script rest taken given disk
+RunDone M B Status.DiskFault script rest taken given disk = WroteBroken M B script taken given disk
+RunDone M B Status.WriteFault script rest taken given disk = WroteFront M B script taken given disk
+RunDone M B _ script rest taken given disk = ⊥
+
+-- ================ the last line
+
+-- by how the lines ended
+abbrev pub last_text : {V : Type 0} → Machine V → LinesEnd → ℕ → V → List ℕ
+last_text M LinesEnd.Read lines v = codes "end at " ++ decimal (M.count v) ++ codes " credit " ++ decimal (M.credit v) ++ codes "\n"
+last_text M LinesEnd.Stopped lines v = codes "line " ++ decimal (lines + 1) ++ codes "\n"
+last_text M LinesEnd.ReadFault lines v = codes "read fault\n"
+last_text M LinesEnd.DiskFault lines v = codes "disk fault\n"
+last_text M LinesEnd.WriteFault lines v = []
+
+abbrev pub status_after : LinesEnd → Status
+status_after LinesEnd.Read = Status.Done
+status_after LinesEnd.Stopped = Status.ScriptFault
+status_after LinesEnd.ReadFault = Status.ReadFault
+status_after LinesEnd.DiskFault = Status.DiskFault
+status_after LinesEnd.WriteFault = Status.WriteFault
+
+-- the last line was given whole, or else a front of it
+abbrev pub GivesLast : (status result : Status) → (taken given : Option (List ℕ)) → List ℕ → Type 0
+GivesLast status result taken given text =
+    ((result ≡ status) × Appends taken given text) ⊎ ((result ≡ Status.WriteFault) × AppendsFront taken given text)
