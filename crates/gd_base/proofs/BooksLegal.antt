@@ -66,8 +66,11 @@ none_held : (h : Option Handpay) → is_some h ≡ false → held_by h ≡ 0
 none_held None h = refl
 none_held (Some p) h = absurd (cc h)
 
+pub not_held : (v : View) → while_locked v ≡ None → is_some v.handpay ≡ false
+not_held v h = (all_false (holds v) conditions (none_of (lock v) h)).1.1.1.1.1.1.1.1.1.1.0
+
 held_none : (v : View) → while_locked v ≡ None → held_by v.handpay ≡ 0
-held_none v h = none_held v.handpay ((all_false (holds v) conditions (none_of (lock v) h)).1.1.1.1.1.1.1.1.1.1.0)
+held_none v h = none_held v.handpay (not_held v h)
 
 ordered_none : (order : Option Order) → is_some order ≡ false → ordered_by order ≡ 0
 ordered_none None h = refl
@@ -102,7 +105,7 @@ coin_left : (coin number : ℕ) (order : Option Order) → AreCoins coin order �
 coin_left coin number None coins h = absurd (cc h)
 coin_left coin number (Some order) coins h = coin_of_kind coin order.kind order.amount (order.number == number) coins h
 
-is_so : (b : Bool) (why : Refusal) → unless b why ≡ None → b ≡ true
+pub is_so : (b : Bool) (why : Refusal) → unless b why ≡ None → b ≡ true
 is_so true why h = refl
 is_so false why h = absurd (cc h)
 

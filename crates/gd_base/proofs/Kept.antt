@@ -1,18 +1,19 @@
 -- Rules of a view that the next entry keeps, together.
-use Rattle.std.proofs.Common.{◌≡◌, ◌≤◌, ◌==◌, ◌+◌, ◌&&◌, ℕ, Bool, true, nat_le, List, [], ◌∷◌, length, map, refl, ap, arith}
+use Rattle.std.proofs.Common.{◌≡◌, ◌≤◌, ◌==◌, ◌+◌, ◌&&◌, ℕ, true, nat_le, length, map, refl, ap, arith}
 use Rattle.std.proofs.lemmas.Bool.Decides.{nat_tests}
 use Rattle.gd_base.specs.Entry.{Entry}
 use Rattle.gd_base.specs.Kept.{kept_rules, KeepsRules}
-use Rattle.gd_base.specs.Spelling.{view_rules, all_true, fall_from, play_limit, are_places}
+use Rattle.gd_base.specs.Spelling.{view_rules, fall_from, play_limit, are_places}
 use Rattle.gd_base.specs.View.{View}
 use Rattle.gd_base.specs.ViewOf.{with_entry}
 use Rattle.gd_base.proofs.KeptBooks.{books_kept}
 use Rattle.gd_base.proofs.KeptCounts.{counts_kept}
 use Rattle.gd_base.proofs.KeptHandpay.{handpay_kept}
+use Rattle.gd_base.proofs.KeptOpen.{one_open_kept}
 use Rattle.gd_base.proofs.KeptOrder.{order_kept}
 use Rattle.gd_base.proofs.KeptPlaces.{events_fall, bills_fall, vouchers_fall}
 use Rattle.gd_base.proofs.KeptRules.{count_kept, orders_kept, devices_kept, lists_short}
-use Rattle.gd_base.proofs.Rules.{AllTrue, all_told, all_hold, both}
+use Rattle.gd_base.proofs.Rules.{all_told, all_hold, both}
 
 test_of : (m n : ℕ) → m ≡ n → (m == n) ≡ true
 test_of m n h = grind (arith, nat_tests, h)
@@ -44,53 +45,22 @@ places_of v h =
 
 pub keeps_rules : KeepsRules
 keeps_rules setup digest spelled blocks lap v e h k next =
-    let t = all_told (view_rules v) h in
     let w = with_entry setup v e in
+    let t = all_told (view_rules v) h in
     let r = t.1.1.1.1.1.1 in
-    let s = r.1.1.1.1.1 in
-    let judged = ap (λ (x : Entry). x.reply) next.made in
-    let places = places_of v s.0 in
-    let order = order_kept setup v e judged (s.1.1.0, s.1.1.1.0) in
-    all_hold (kept_rules w) (
-      t.0,
-      (
-        t.1.0,
-        (
-          refl,
-          (
-            refl,
-            (
-              refl,
-              (
-                refl,
-                (
-                  count_kept setup v e next.room,
-                  (
-                    devices_kept setup v e (is_so (length v.kept) 9 t.1.1.1.1.1.0) r.1.0,
-                    (
-                      test_of _ _ (books_kept setup digest spelled blocks lap v e h k next),
-                      (
-                        counts_kept setup v e (is_so (length v.totals) 16 t.1.1.0) r.1.1.1.0,
-                        (
-                          test_le _ _ (orders_kept setup v e (at_most v.orders v.count r.1.1.1.1.0)),
-                          (
-                            events_fall setup v e places.0,
-                            (
-                              bills_fall setup v e places.1,
-                              (
-                                vouchers_fall setup v e places.2,
-                                (lists_short setup v e, (order.0, (order.1, (handpay_kept setup v e judged s.1.1.1.1.0, tt)))),
-                              ),
-                            ),
-                          ),
-                        ),
-                      ),
-                    ),
-                  ),
-                ),
-              ),
-            ),
-          ),
-        ),
-      ),
-    )
+    let x = r.1.1.1.1.1 in
+    let judged = ap (λ (y : Entry). y.reply) next.made in
+    let count = count_kept setup v e next.room in
+    let kept = devices_kept setup v e (is_so (length v.kept) 9 t.1.1.1.1.1.0) r.1.0 in
+    let books = test_of _ _ (books_kept setup digest spelled blocks lap v e h k next) in
+    let counts = counts_kept setup v e (is_so (length v.totals) 16 t.1.1.0) r.1.1.1.0 in
+    let orders = test_le _ _ (orders_kept setup v e (at_most v.orders v.count r.1.1.1.1.0)) in
+    let p = places_of v x.0 in
+    let events = events_fall setup v e p.0 in
+    let bills = bills_fall setup v e p.1 in
+    let vouchers = vouchers_fall setup v e p.2 in
+    let o = order_kept setup v e judged (x.1.1.0, x.1.1.1.0) in
+    let held = handpay_kept setup v e judged x.1.1.1.1.0 in
+    let one = one_open_kept setup v e judged x.1.1.1.1.1.0 in
+    let short = lists_short setup v e in
+    all_hold (kept_rules w) (t.0, (t.1.0, (refl, (refl, (refl, (refl, (count, (kept, (books, (counts, (orders, (events, (bills, (vouchers, (short, (o.0, (o.1, (held, (one, tt)))))))))))))))))))

@@ -10,7 +10,7 @@ use Rattle.gd_base.specs.declared.setup.Setup.{Setup}
 use Rattle.gd_base.specs.Books.{Balances, KeepsBooks, KeepsBooksOver}
 use Rattle.gd_base.specs.Credit.{ordered_by}
 use Rattle.gd_base.specs.Entry.{Entry}
-use Rattle.gd_base.specs.Legal.{IsNext, IsLegal, view_over}
+use Rattle.gd_base.specs.Legal.{IsNext, IsLegal}
 use Rattle.gd_base.specs.Machine.{Blocks}
 use Rattle.gd_base.specs.Meters.{held_by}
 use Rattle.gd_base.specs.Payload.{left_of}

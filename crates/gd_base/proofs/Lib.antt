@@ -4,6 +4,7 @@ pub mod Totals
 pub mod ChanceRows
 pub mod HistoryRows
 pub mod PayloadRows
+pub mod FullRows
 pub mod TextRows
 pub mod Digits
 pub mod Lines
@@ -27,6 +28,7 @@ pub mod KeptBooks
 pub mod KeptOrder
 pub mod KeptCounts
 pub mod KeptHandpay
+pub mod KeptOpen
 pub mod OneSpelled
 pub mod Exact
 pub mod Whole

@@ -1,9 +1,7 @@
 -- What a payload spells under a setup is one thing.
-use Rattle.std.proofs.Common.{◌≡◌, ℕ, List, ap, sym, ◌∙◌, refl, true}
-use Rattle.gd_base.specs.declared.setup.Setup.{Setup}
+use Rattle.std.proofs.Common.{ℕ, List, ap, sym, ◌∙◌, refl}
 use Rattle.gd_base.specs.OneView.{HasOneView, SpellsOneThing}
 use Rattle.gd_base.specs.Spelled.{Spelled, Shows, Foreign, Unreadable}
-use Rattle.gd_base.specs.Spelling.{SpelledAs}
 use Rattle.gd_base.specs.View.{View}
 use Rattle.gd_base.proofs.OneView.{one_view, spells_one}
 

@@ -141,12 +141,35 @@ possible count balance bill_in power_ups kept k =
     let zero : nat_le 0 count ≡ true = is_within 0 count (omega arith) in
     let ups : nat_le power_ups count ≡ true = is_within power_ups count starts in
     let counts : list_all (λ n. nat_le n count) (drop 9 v.totals) ≡ true =
-        ap (λ (b : Bool). b && (b && (nat_le power_ups count && (b && (b && (b && (b && true))))))) zero ∙ ap (λ (b : Bool). b && true) ups in
-    every (view_rules v)
-    (refl, (refl, (refl, (refl, (refl, (is_equal (length kept) 9 k.nine, (is_within count (2 ^ 36) room,
-    (two_true (sum (map (λ x. x.0) kept) == count) (list_all is_flagged_last kept) (is_equal (sum (map (λ x. x.0) kept)) count k.numbers) k.replies,
-    (two_true (outgo v == income v) (nat_le (income v) (count * 100000000)) (is_equal (outgo v) (income v) sums) (is_within (income v) (count * 100000000) within),
-    (counts, (zero, (refl, (refl, (refl, (refl, (refl, (refl, (refl, (refl, (refl, (refl, (refl, (refl, tt)))))))))))))))))))))))
+    ap (λ (b : Bool). b && (b && (nat_le power_ups count && (b && (b && (b && (b && true))))))) zero ∙ ap (λ (b : Bool). b && true) ups in
+    every (view_rules v) (
+      refl,
+      (
+        refl,
+        (
+          refl,
+          (
+            refl,
+            (
+              refl,
+              (
+                is_equal (length kept) 9 k.nine,
+                (
+                  is_within count (2 ^ 36) room,
+                  (
+                    two_true (sum (map (λ x. x.0) kept) == count) (list_all is_flagged_last kept) (is_equal (sum (map (λ x. x.0) kept)) count k.numbers) k.replies,
+                    (
+                      two_true (outgo v == income v) (nat_le (income v) (count * 100000000)) (is_equal (outgo v) (income v) sums) (is_within (income v) (count * 100000000) within),
+                      (counts, (zero, (refl, (refl, (refl, (refl, (refl, (refl, (refl, (refl, (refl, (refl, (refl, (refl, tt)))))))))))))),
+                    ),
+                  ),
+                ),
+              ),
+            ),
+          ),
+        ),
+      ),
+    )
 
 -- ================ an entry keeps the rules
 
@@ -186,16 +209,31 @@ all_flagged : (d : Device) (reply : Reply) (kept : List Kept) → length kept �
     → list_all is_flagged_last (with_reply d reply kept) ≡ true
 all_flagged d reply (a ∷ b ∷ c ∷ e ∷ f ∷ g ∷ h ∷ i ∷ j ∷ []) len told =
     let t = each_flagged (a ∷ b ∷ c ∷ e ∷ f ∷ g ∷ h ∷ i ∷ j ∷ []) told in
-    every_one (with_reply d reply (a ∷ b ∷ c ∷ e ∷ f ∷ g ∷ h ∷ i ∷ j ∷ []))
-    (flagged_more a.0 (is_device d Device.Bill) reply a.1 t.0,
-    (flagged_more b.0 (is_device d Device.Coin) reply b.1 t.1.0,
-    (flagged_more c.0 (is_device d Device.Reader) reply c.1 t.1.1.0,
-    (flagged_more e.0 (is_device d Device.Printer) reply e.1 t.1.1.1.0,
-    (flagged_more f.0 (is_device d Device.Hopper) reply f.1 t.1.1.1.1.0,
-    (flagged_more g.0 (is_device d Device.Doors) reply g.1 t.1.1.1.1.1.0,
-    (flagged_more h.0 (is_device d Device.Player) reply h.1 t.1.1.1.1.1.1.0,
-    (flagged_more i.0 (is_device d Device.Attendant) reply i.1 t.1.1.1.1.1.1.1.0,
-    (flagged_more j.0 (is_device d Device.Power) reply j.1 t.1.1.1.1.1.1.1.1.0, tt)))))))))
+    every_one (with_reply d reply (a ∷ b ∷ c ∷ e ∷ f ∷ g ∷ h ∷ i ∷ j ∷ [])) (
+      flagged_more a.0 (is_device d Device.Bill) reply a.1 t.0,
+      (
+        flagged_more b.0 (is_device d Device.Coin) reply b.1 t.1.0,
+        (
+          flagged_more c.0 (is_device d Device.Reader) reply c.1 t.1.1.0,
+          (
+            flagged_more e.0 (is_device d Device.Printer) reply e.1 t.1.1.1.0,
+            (
+              flagged_more f.0 (is_device d Device.Hopper) reply f.1 t.1.1.1.1.0,
+              (
+                flagged_more g.0 (is_device d Device.Doors) reply g.1 t.1.1.1.1.1.0,
+                (
+                  flagged_more h.0 (is_device d Device.Player) reply h.1 t.1.1.1.1.1.1.0,
+                  (
+                    flagged_more i.0 (is_device d Device.Attendant) reply i.1 t.1.1.1.1.1.1.1.0,
+                    (flagged_more j.0 (is_device d Device.Power) reply j.1 t.1.1.1.1.1.1.1.1.0, tt),
+                  ),
+                ),
+              ),
+            ),
+          ),
+        ),
+      ),
+    )
 all_flagged d reply _ len told = absurd (omega (arith, len))
 
 pub counted_entry : (count balance bill_in power_ups value starts : ℕ) (kept : List Kept) (d : Device) (reply : Reply) → IsCounted count balance bill_in power_ups kept

@@ -1,4 +1,4 @@
--- Worked rows of what the words of a play decide, to be computed: under the built-in setup, what the papers of a game show.
+-- Worked rows of what the words of a play decide, to be computed under the built-in setup.
 use Rattle.std.specs.Prelude.{◌≡◌, ℕ, List, [], ◌∷◌, codes, map, replicate}
 use Rattle.gd_base.specs.declared.play.Rank.{Rank}
 use Rattle.gd_base.specs.BuiltIn.{built_in_setup}

@@ -6,19 +6,19 @@ use Rattle.gd_base.specs.Entry.{Entry}
 use Rattle.gd_base.specs.Legal.{IsNext}
 use Rattle.gd_base.specs.Machine.{Blocks}
 use Rattle.gd_base.specs.Spelled.{Spelled}
-use Rattle.gd_base.specs.Spelling.{is_possible, is_possible_under, are_kept, fall_from, are_short, is_small_order, has_number, is_some_handpay, income, outgo, all_true}
+use Rattle.gd_base.specs.Spelling.{is_possible, is_possible_under, are_kept, fall_from, are_short, is_small_order, has_number, is_some_handpay, is_one_open, income, outgo, all_true}
 use Rattle.gd_base.specs.TheMachine.{machine}
 use Rattle.gd_base.specs.View.{View}
 use Rattle.gd_base.specs.ViewOf.{with_entry}
 
--- lengths, the count, devices, books, counts, places, the open order and handpay
+-- lengths, the count, devices, books, counts, places, the open order and handpay, and that at most one of them and a play is open
 abbrev pub kept_rules : View → List Bool
 kept_rules v =
     (length v.digest == 32) ∷ list_all (λ b. nat_lt b 256) v.digest ∷ (length v.totals == 16) ∷ (length v.doors == 4) ∷ (length v.tilts == 6) ∷ (length v.kept == 9)
     ∷ nat_le v.count (2 ^ 36) ∷ are_kept v ∷ (outgo v == income v) ∷ list_all (λ n. nat_le n v.count) (drop 9 v.totals) ∷ nat_le v.orders v.count
     ∷ fall_from (v.count + 1) (map (λ e. e.place) v.events) ∷ fall_from (v.count + 1) (map (λ b. b.place) v.bills)
     ∷ fall_from (v.count + 1) (map (λ r. r.place) v.vouchers) ∷ are_short v ∷ is_small_order v.order ∷ has_number v.orders v.order
-    ∷ is_some_handpay v.handpay ∷ []
+    ∷ is_some_handpay v.handpay ∷ is_one_open v ∷ []
 
 abbrev pub KeepsRules : Type 0
 KeepsRules =

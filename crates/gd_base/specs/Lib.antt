@@ -34,6 +34,7 @@ pub mod ChanceRows
 pub mod HistoryRows
 pub mod TextRows
 pub mod PayloadRows
+pub mod FullRows
 pub mod Books
 pub mod OneView
 pub mod Whole

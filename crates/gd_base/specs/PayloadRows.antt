@@ -1,5 +1,5 @@
 -- Worked rows of payloads, to be computed: their length, and views that keep the rules of a view.
-use Rattle.std.specs.Prelude.{◌≡◌, ℕ, IsTrue, length, replicate}
+use Rattle.std.specs.Prelude.{◌≡◌, IsTrue, length, replicate}
 use Rattle.gd_base.specs.declared.machine_core.TheConstants.{PAYLOAD_LEN}
 use Rattle.gd_base.specs.declared.setup.Setup.{Setup}
 use Rattle.gd_base.specs.BuiltIn.{built_in_setup}

@@ -1,5 +1,5 @@
 -- Worked rows of texts, to be computed.
-use Rattle.std.specs.Prelude.{◌≡◌, List, [], ◌∷◌, codes, take}
+use Rattle.std.specs.Prelude.{◌≡◌, [], ◌∷◌, codes, take}
 use Rattle.gd_base.specs.declared.event.Event.{Event}
 use Rattle.gd_base.specs.declared.event.Game.{Game}
 use Rattle.gd_base.specs.BuiltIn.{built_in_setup}

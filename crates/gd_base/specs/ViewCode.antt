@@ -113,8 +113,16 @@ coded_view =
     (coded× (coded× (coded_option coded_play) (coded× coded_ℕ (coded× (coded_option coded_order) (coded_option coded_handpay))))
     (coded× (coded_list (coded× coded_ℕ coded_reply))
     (coded× (coded_list coded_play) (coded× (coded_list coded_event) (coded× (coded_list coded_bill) (coded_list coded_voucher))))))))
-    (λ v. ((v.digest, (v.count, (v.balance, v.totals))), ((v.doors, v.tilts), ((v.play, (v.orders, (v.order, v.handpay))),
-    (v.kept, (v.plays, (v.events, (v.bills, v.vouchers))))))))
+    (λ v. (
+      (v.digest, (v.count, (v.balance, v.totals))),
+      (
+        (v.doors, v.tilts),
+        (
+          (v.play, (v.orders, (v.order, v.handpay))),
+          (v.kept, (v.plays, (v.events, (v.bills, v.vouchers)))),
+        ),
+      ),
+    ))
     (λ p. record {
       digest = p.0.0;
       count = p.0.1.0;

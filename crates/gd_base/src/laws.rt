@@ -3,6 +3,7 @@
 pub mod answers;
 pub mod books;
 pub mod chance_rows;
+pub mod full_rows;
 pub mod history_rows;
 pub mod indexes;
 pub mod payload_rows;

@@ -23,7 +23,7 @@ pub trait Sink {
         ensures cause { HasCause (faults self.old) (faults self.new) result };
 }
 
-/// Any writer of std as a sink. It gives up at the first write that fails or takes nothing.
+/// Any writer of std as a sink. It gives up at the first write that fails or takes nothing, and flushes nothing.
 #[derive(Drop)]
 pub struct Writing<W> {
     inner: W,
@@ -101,9 +101,7 @@ impl MemorySink {
             faults: 0,
         })
     }
-}
 
-impl MemorySink {
     /// The bytes taken.
     pub fn bytes(&self) -> &[u8]
         ensures { result.now ≡ self.now.taken }

@@ -60,7 +60,7 @@ carried : (l : Layout) (m : ℕ) (p x y : List ℕ) → y ≡ x → IsCopy l m p
 carried l m p x y same is = (ap (state_of l) same ∙ is.0, ap (stored_payload l) same ∙ is.1)
 
 module _ (l : Layout) (n : ℕ) (q : List ℕ) (range : n < 2 ^ 64) (long_q : length q ≡ 512 * l.pages) (apart : l.a + copy_len l.pages ≤ l.b) where
-  len_new : length (sealed l n q) ≡ copy_len l.pages
+  pub len_new : length (sealed l n q) ≡ copy_len l.pages
   len_new = length-sealed l n q range long_q
 
   new_is : (x : List ℕ) → x ≡ sealed l n q → IsCopy l n q x
@@ -85,10 +85,10 @@ module _ (l : Layout) (n : ℕ) (q : List ℕ) (range : n < 2 ^ 64) (long_q : le
   old_b : (d c : List ℕ) → part l.b (length (sealed l n q)) c ≡ part l.b (length (sealed l n q)) d → copy_b l c ≡ copy_b l d
   old_b d c same = subst (λ (k : ℕ). part l.b k c ≡ part l.b k d) len_new same
 
-  new_a : (c : List ℕ) → part l.a (length (sealed l n q)) c ≡ sealed l n q → IsCopy l n q (copy_a l c)
+  pub new_a : (c : List ℕ) → part l.a (length (sealed l n q)) c ≡ sealed l n q → IsCopy l n q (copy_a l c)
   new_a c whole = new_is (copy_a l c) (subst (λ (k : ℕ). part l.a k c ≡ sealed l n q) len_new whole)
 
-  new_b : (c : List ℕ) → part l.b (length (sealed l n q)) c ≡ sealed l n q → IsCopy l n q (copy_b l c)
+  pub new_b : (c : List ℕ) → part l.b (length (sealed l n q)) c ≡ sealed l n q → IsCopy l n q (copy_b l c)
   new_b c whole = new_is (copy_b l c) (subst (λ (k : ℕ). part l.b k c ≡ sealed l n q) len_new whole)
 
   -- while a copy that isn't the booted one is written over with what is booted, this is booted

@@ -10,3 +10,4 @@ pub mod Assembled
 pub mod Sealed
 pub mod Makings
 pub mod Lent
+pub mod MakingMoments

@@ -11,7 +11,7 @@ use Rattle.gd_store.specs.declared.room.Room.{Room}
 abbrev pub IsFound : Layout → Found → List ℕ → Type 0
 IsFound l found image = (found.a ≡ state_of l (copy_a l image)) × (found.b ≡ state_of l (copy_b l image))
 
--- an answer about an image, with the payload
+-- an answer is right of an image, with the payload in the room
 abbrev pub BootedAs : Layout → Booted → List ℕ → List ℕ → Type 0
 BootedAs l (Booted.Ready found sequence) payload image = IsFound l found image × (boots l image ≡ Some (sequence, payload))
 BootedAs l (Booted.Lost found) payload image = IsFound l found image × (boots l image ≡ None)
@@ -34,7 +34,7 @@ IsLatest Booted.Off = Unit {0}
 abbrev pub HoldsCopies : Layout → Room → List ℕ → Type 0
 HoldsCopies l room image = (room.a.items ≡ copy_a l image) × (room.b.items ≡ copy_b l image)
 
--- they are in the room, where they were read
+-- the room has the bytes of both copies, where they were read
 abbrev pub BootedCopies : Layout → Booted → Room → List ℕ → Type 0
 BootedCopies l (Booted.Ready found sequence) room image = HoldsCopies l room image
 BootedCopies l (Booted.Lost found) room image = HoldsCopies l room image

@@ -44,15 +44,19 @@ sealed l sequence payload = 0xA5 ∷ body_of l sequence payload
 
 -- ---- any bytes read as a copy
 
+-- the sequence in its header
 unfoldable pub stored_sequence : List ℕ → ℕ
 stored_sequence copy = from_be_bytes w64 (part 9 8 copy)
 
+-- its header and digests
 unfoldable pub stored_head : Layout → List ℕ → List ℕ
 stored_head l copy = part 1 (16 + 32 * l.pages) copy
 
+-- its seal
 unfoldable pub stored_seal : Layout → List ℕ → List ℕ
 stored_seal l copy = part (17 + 32 * l.pages) 32 copy
 
+-- its pages
 unfoldable pub stored_payload : Layout → List ℕ → List ℕ
 stored_payload l copy = part (49 + 32 * l.pages) (512 * l.pages) copy
 
@@ -69,6 +73,7 @@ unfoldable pub lowest_bad : Layout → List ℕ → ℕ → ℕ → Option ℕ
 lowest_bad l copy i zero = None
 lowest_bad l copy i (suc n) = if page_matches l copy i then lowest_bad l copy (i + 1) n else Some i
 
+-- a copy whose header and seal are right, by its lowest bad page
 abbrev pub pages_state : ℕ → Option ℕ → CopyState
 pages_state sequence None = Sound sequence
 pages_state sequence (Some i) = Bad (BadPage i)
@@ -84,6 +89,7 @@ state_of l copy =
     else Bad BadHeader)
     else Bad Shut
 
+-- the bytes of the two copies of an image
 abbrev pub copy_a : Layout → List ℕ → List ℕ
 copy_a l image = part l.a (copy_len l.pages) image
 

@@ -9,3 +9,4 @@ pub mod Repair
 pub mod Store
 pub mod Words
 pub mod Writing
+pub mod Zeros

@@ -10,6 +10,7 @@ use Rattle.gd_store.specs.declared.opening.Opened.{Opened}
 abbrev pub IsOpenable : DiskState → Type 0
 IsOpenable disk = (disk.is_on ≡ false) ⊎ IsSynced disk
 
+-- the disk and the room that an answer holds
 abbrev pub disk_in : {D : Type 0} {g : _} → Opened D g → D
 disk_in (Opened.Ready store found) = store.disk
 disk_in (Opened.Lost found disk room) = disk
@@ -26,11 +27,13 @@ outcome (Opened.Ready store found) = Ok tt
 outcome (Opened.Lost found disk room) = Ok tt
 outcome (Opened.Off disk room) = Err tt
 
+-- a fact of the store and of what was found, where there is a store
 abbrev pub OnReady : {D : Type 0} {g : _} → Opened D g → (Store D g → Found → Type 0) → Type 0
 OnReady (Opened.Ready store found) P = P store found
 OnReady (Opened.Lost found disk room) P = Unit {0}
 OnReady (Opened.Off disk room) P = Unit {0}
 
+-- a fact of what was found, where nothing could be booted
 abbrev pub OnLost : {D : Type 0} {g : _} → Opened D g → (Found → Type 0) → Type 0
 OnLost (Opened.Ready store found) P = Unit {0}
 OnLost (Opened.Lost found disk room) P = P found

@@ -21,6 +21,11 @@ pub record IsShutting (at : ℕ) (old new : List ℕ) : Type 0 where
   pub elsewhere : Torn at 1 old new
   pub shut_or_same : IsShut at new ⊎ (new ≡ old)
 
+-- a gate that held this byte is written over where it was open: all else stands
+pub record IsOverOpen (at gate : ℕ) (old new : List ℕ) : Type 0 where
+  pub elsewhere : Torn at 1 old new
+  pub stands : gate ≢ 0xA5 → new ≡ old
+
 -- while a copy is written over an image: all else stands, and the copy is the old one, or it's shut, or it's the new one
 pub record IsWriting (at : ℕ) (copy old new : List ℕ) : Type 0 where
   pub elsewhere : Torn at (length copy) old new

@@ -1,6 +1,6 @@
 // What a disk boots to, with the payload in a room.
-ghost use Rattle.std.specs.Prelude.{◌≡◌, true, ◌+◌, ◌*◌, ◌<◌, ◌≤◌, ◌-◌, length, IfOk, OnOk, OnErr, Some, None, List, ℕ};
-ghost use Rattle.gd_disk.specs.Disk.{IfTold, Stands, IsSynced, Answers, Rose};
+ghost use Rattle.std.specs.Prelude.{◌≡◌, true, OnOk, OnErr, Some, None};
+ghost use Rattle.gd_disk.specs.Disk.{IfTold, Stands, Answers, Rose};
 ghost use Rattle.gd_disk.specs.Runs.{LeavesOnly};
 ghost use Rattle.gd_store.specs.Copy.{stored_payload};
 ghost use Rattle.gd_store.specs.Choice.{spelled};

@@ -1,5 +1,5 @@
 // The commit of a payload.
-ghost use Rattle.std.specs.Prelude.{◌≡◌, ◌⊎◌, ◌+◌, ◌*◌, ◌<◌, ◌^◌, List, ℕ, length, OnOk, OnErr, true, false, Some};
+ghost use Rattle.std.specs.Prelude.{◌≡◌, ◌⊎◌, ◌+◌, ◌*◌, ◌<◌, ◌^◌, length, OnOk, OnErr, true, false, Some};
 ghost use Rattle.gd_disk.specs.Disk.{IfTold, IsSynced, Answers};
 ghost use Rattle.gd_disk.specs.Runs.{LeavesOnly, CutsOfRun};
 ghost use Rattle.gd_store.specs.Copy.{HoldsBoth, LiesWithin, boots, copy_len};

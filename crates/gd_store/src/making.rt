@@ -1,11 +1,11 @@
 // The making of a memory.
 ghost use Rattle.std.specs.Prelude.{◌≡◌, ◌+◌, ◌*◌, ◌≤◌, length, slice_index, IfOk, OnOk};
-ghost use Rattle.gd_disk.specs.Disk.{IfTold, IsSynced, Answers};
-ghost use Rattle.gd_disk.specs.Runs.{CutsOfRun};
+ghost use Rattle.gd_disk.specs.Disk.{IfTold, Stands, IsSynced, Answers};
+ghost use Rattle.gd_disk.specs.Runs.{LeavesOnly, CutsOfRun};
 ghost use Rattle.gd_store.specs.Copy.{HoldsBoth, LiesWithin, copy_len};
 ghost use Rattle.gd_store.specs.Words.{room_payload};
-ghost use Rattle.gd_store.specs.Writing.{AreShut, MadeSyncs};
-ghost use Rattle.gd_store.specs.Making.{made_disk, made_room, made_outcome};
+ghost use Rattle.gd_store.specs.Writing.{AreShut, From, MadeSyncs};
+ghost use Rattle.gd_store.specs.Making.{made_disk, made_room, made_outcome, AreShutting, IsMaking};
 
 use crate::sealing::seal_body;
 use crate::writing::{shut_open, write_shut};
@@ -23,11 +23,13 @@ pub enum Made<D: Disk> {
 
 impl<D: Disk> Store<D> {
     /// Writes the room's payload to both copies at sequence 0, whatever the disk has: shuts the gates that are open,
-    /// then writes and opens copy a, then copy b, by five syncs. The room keeps its payload.
+    /// then writes and opens copy a, then copy b, by five syncs. The room keeps its payload. Where nothing waited for
+    /// a sync before, each copy is the old one, or shut, or the new one at each moment, and none is new beside an old one.
     pub fn make(disk: D, room: Room) -> Made<D>
         requires size { (D.state disk).size ≡ DISK_LEN }
         ensures done { OnOk (made_outcome result) (IfTold (D.state (made_disk result)).seen (HoldsBoth LAYOUT 0 (room_payload room))) }
         ensures synced { OnOk (made_outcome result) (IsSynced (D.state (made_disk result))) }
+        ensures any_moment { IsSynced (D.state disk) → LeavesOnly (D.state disk) (D.state (made_disk result)) (From (D.state disk) (IsMaking LAYOUT (room_payload room))) }
         ensures answer { Answers (made_outcome result) (D.state disk) (D.state (made_disk result)) }
         ensures syncs { MadeSyncs 5 (made_outcome result) (D.state disk) (D.state (made_disk result)) }
         ensures cuts { CutsOfRun 5 (made_outcome result) (D.state disk) (D.state (made_disk result)) }
@@ -55,6 +57,7 @@ fn make_both<D: Disk>(
     requires body { length body.old + 1 ≡ copy_len layout.pages }
     ensures holds { OnOk result (IfTold (D.state disk.new).seen (HoldsBoth layout 0 payload.now)) }
     ensures synced { OnOk result (IsSynced (D.state disk.new)) }
+    ensures any_moment { IsSynced (D.state disk.old) → LeavesOnly (D.state disk.old) (D.state disk.new) (From (D.state disk.old) (IsMaking layout payload.now)) }
     ensures answer { Answers result (D.state disk.old) (D.state disk.new) }
     ensures syncs { MadeSyncs 5 result (D.state disk.old) (D.state disk.new) }
     ensures cuts { CutsOfRun 5 result (D.state disk.old) (D.state disk.new) }
@@ -70,6 +73,7 @@ fn shut_both<D: Disk>(disk: &mut D, layout: Layout) -> Result<(), Off>
     requires within { LiesWithin layout (D.state disk.old).size }
     ensures shut { OnOk result (IfTold (D.state disk.new).seen (AreShut layout)) }
     ensures synced { OnOk result (IsSynced (D.state disk.new)) }
+    ensures any_moment { IsSynced (D.state disk.old) → LeavesOnly (D.state disk.old) (D.state disk.new) (From (D.state disk.old) (AreShutting layout)) }
     ensures answer { Answers result (D.state disk.old) (D.state disk.new) }
     ensures syncs { MadeSyncs 1 result (D.state disk.old) (D.state disk.new) }
     ensures cuts { CutsOfRun 1 result (D.state disk.old) (D.state disk.new) }
@@ -81,10 +85,12 @@ fn shut_both<D: Disk>(disk: &mut D, layout: Layout) -> Result<(), Off>
     disk.sync()
 }
 
+// The byte of a gate.
 fn read_gate<D: Disk>(disk: &mut D, at: u64) -> Result<u8, Off>
     requires { at + 1 ≤ (D.state disk.old).size }
     ensures gate { IfOk result (λ gate. IfTold (D.state disk.old).seen (λ image. slice_index image at ≡ gate)) }
     ensures seen { OnOk result ((D.state disk.new).seen ≡ (D.state disk.old).seen) }
+    ensures any_moment { LeavesOnly (D.state disk.old) (D.state disk.new) (From (D.state disk.old) Stands) }
     ensures answer { Answers result (D.state disk.old) (D.state disk.new) }
     ensures syncs { (D.state disk.new).syncs ≡ (D.state disk.old).syncs }
     ensures cuts { CutsOfRun 0 result (D.state disk.old) (D.state disk.new) }

@@ -1,7 +1,6 @@
 // What a disk boots to.
-ghost use Rattle.std.specs.Prelude.{◌≡◌, OnErr, true, ◌+◌, ◌*◌, ◌<◌, ◌≤◌, ◌-◌, length, IfOk, OnOk, Some, None, List, ℕ};
-ghost use Rattle.std.specs.Int.{w64, from_be_bytes};
-ghost use Rattle.gd_disk.specs.Disk.{IfTold, Stands, IsSynced, Answers, Rose};
+ghost use Rattle.std.specs.Prelude.{◌≡◌, OnErr, true, ◌≤◌, length, IfOk, OnOk, Some, None};
+ghost use Rattle.gd_disk.specs.Disk.{IfTold, Stands, Answers, Rose};
 ghost use Rattle.gd_disk.specs.Runs.{LeavesOnly};
 ghost use Rattle.gd_store.specs.Copy.{copy_len, header_start, state_of, lowest_bad, stored_sequence, copy_a, copy_b, chosen, LiesWithin, stored_payload};
 ghost use Rattle.gd_store.specs.Choice.{spelled};
@@ -11,6 +10,7 @@ use crate::{CopyState, Layout, Why};
 use gd_disk::{Disk, Off};
 use sha2::{Digest, Sha256};
 
+// The name, the version and the page count with which a header begins.
 fn start(layout: Layout) -> [u8; 8]
     ensures { result ≡ header_start layout }
 {
@@ -19,6 +19,7 @@ fn start(layout: Layout) -> [u8; 8]
     [71, 68, 67, 77, v0, v1, p0, p1]
 }
 
+// The sequence in the header of a copy.
 fn sequence(copy: &[u8]) -> u64
     requires { 17 ≤ length copy.now }
     ensures { result ≡ stored_sequence copy.now }
@@ -28,6 +29,7 @@ fn sequence(copy: &[u8]) -> u64
     u64::from_be_bytes(bytes)
 }
 
+// The lowest page whose digest isn't the kept one.
 fn lowest_bad_page(layout: Layout, copy: &[u8]) -> Option<u8>
     requires length { length copy.now ≡ copy_len layout.pages }
     requires pages { layout.pages ≤ 256 }
@@ -44,6 +46,7 @@ fn lowest_bad_page(layout: Layout, copy: &[u8]) -> Option<u8>
     None
 }
 
+// What a copy is: the first of the causes that applies, or sound.
 #[tactic(auto, unfolding(crate::specs::Copy::state_of, crate::specs::Copy::stored_head, crate::specs::Copy::stored_seal))]
 pub(crate) fn state(layout: Layout, copy: &[u8]) -> CopyState
     requires length { length copy.now ≡ copy_len layout.pages }
@@ -67,7 +70,7 @@ pub(crate) fn state(layout: Layout, copy: &[u8]) -> CopyState
     }
 }
 
-/// Which of two copies is booted.
+// Which of two copies is booted, at its sequence.
 #[derive(Clone, Copy, Debug, PartialEq, Eq, Drop)]
 pub(crate) enum Choice {
     CopyA(u64),
@@ -75,6 +78,7 @@ pub(crate) enum Choice {
     Lost,
 }
 
+// Of two copies with these states and payloads, the sound one with the later sequence.
 fn choose(a: CopyState, b: CopyState, payload_a: &[u8], payload_b: &[u8]) -> Choice
     ensures { spelled result payload_a.now payload_b.now ≡ chosen a b payload_a.now payload_b.now }
 {
@@ -96,6 +100,7 @@ fn choose(a: CopyState, b: CopyState, payload_a: &[u8], payload_b: &[u8]) -> Cho
     }
 }
 
+// What was read: the states of the two copies, and which is booted.
 #[derive(Drop)]
 pub(crate) struct Read {
     pub(crate) a: CopyState,
@@ -103,7 +108,7 @@ pub(crate) struct Read {
     pub(crate) choice: Choice,
 }
 
-/// Reads both copies, and says which is booted.
+// Reads both copies, and says which is booted.
 pub(crate) fn read_copies<D: Disk>(
     disk: &mut D,
     layout: Layout,

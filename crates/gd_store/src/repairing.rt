@@ -1,5 +1,5 @@
 // The repair of at most one copy.
-ghost use Rattle.std.specs.Prelude.{◌≡◌, ◌+◌, ◌*◌, ◌<◌, ◌≤◌, ◌^◌, length, OnOk, Some, List, ℕ, slice_index, true};
+ghost use Rattle.std.specs.Prelude.{◌≡◌, ◌+◌, ◌*◌, length, OnOk, Some, slice_index, true};
 ghost use Rattle.gd_disk.specs.Disk.{IfTold, IsSynced, Answers};
 ghost use Rattle.gd_disk.specs.Runs.{LeavesOnly, CutsOfRun};
 ghost use Rattle.gd_store.specs.Copy.{IsCopy, HoldsBoth, LiesWithin, boots, copy_len, copy_a, copy_b};
@@ -13,6 +13,7 @@ use crate::writing::write_copy;
 use crate::{CopyState, Found, Layout};
 use gd_disk::{Disk, Off};
 
+// Sound at this sequence.
 fn is_at(state: CopyState, sequence: u64) -> bool
     ensures { result ≡ is_at state sequence }
 {

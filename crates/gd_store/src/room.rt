@@ -1,6 +1,7 @@
 // Memory for two copies and a payload.
-ghost use Rattle.std.specs.Prelude.{◌≡◌, ◌*◌, length};
+ghost use Rattle.std.specs.Prelude.{◌≡◌, ◌*◌, length, IfOk};
 ghost use Rattle.std.specs.Borrow.{sem};
+ghost use Rattle.gd_store.specs.Zeros.{AreZeros};
 ghost use Rattle.gd_disk.specs.declared.lengths.TheConstants.{COPY_LEN, PAGE_COUNT, PAGE_LEN};
 
 use gd_disk::{COPY_LEN, PAGE_COUNT, PAGE_LEN};
@@ -22,11 +23,13 @@ impl Room {
     ghost use Rattle.gd_store.specs.Lending.{LendsPayload};
 
     /// Room with a payload of zeros. The error comes where the memory isn't to be had.
-    pub fn new(alloc: Global) -> Result<Room, AllocError> {
+    pub fn new(alloc: Global) -> Result<Room, AllocError>
+        ensures { IfOk result (λ room. AreZeros (room_payload room)) }
+    {
         Ok(Room {
-            a: vec![in alloc; 0; COPY_LEN]?,
-            b: vec![in alloc; 0; COPY_LEN]?,
-            payload: vec![in alloc; 0; PAGE_LEN * PAGE_COUNT]?,
+            a: zeros(alloc, COPY_LEN)?,
+            b: zeros(alloc, COPY_LEN)?,
+            payload: zeros(alloc, PAGE_LEN * PAGE_COUNT)?,
         })
     }
 
@@ -46,4 +49,11 @@ impl Room {
     {
         self.payload.as_mut_slice()
     }
+}
+
+fn zeros(alloc: Global, n: usize) -> Result<Vec<u8>, AllocError>
+    ensures length { IfOk result (λ bytes. length bytes.items ≡ n) }
+    ensures zeros { IfOk result (λ bytes. AreZeros bytes.items) }
+{
+    Ok(vec![in alloc; 0; n]?)
 }

@@ -6,6 +6,7 @@ ghost use Rattle.gd_store.specs.Copy.{body_of, copy_len, header_start, digests};
 use crate::Layout;
 use sha2::{Digest, Sha256};
 
+// The name, the version, the page count and the sequence.
 fn header(layout: Layout, sequence: u64) -> [u8; 16]
     ensures { result ≡ header_start layout ++ to_be_bytes w64 sequence }
 {
@@ -17,6 +18,7 @@ fn header(layout: Layout, sequence: u64) -> [u8; 16]
     ]
 }
 
+// Writes the digest of each page.
 fn write_digests(payload: &[u8], into: &mut [u8], pages: usize)
     requires payload { length payload.now ≡ 512 * pages }
     requires room { length into.old ≡ 32 * pages }
@@ -28,7 +30,7 @@ fn write_digests(payload: &[u8], into: &mut [u8], pages: usize)
     }
 }
 
-/// Writes what stands behind the gate of a copy.
+// Writes what stands behind the gate of a copy.
 pub(crate) fn seal_body(layout: Layout, sequence: u64, payload: &[u8], body: &mut [u8])
     requires payload { length payload.now ≡ 512 * layout.pages }
     requires body { length body.old + 1 ≡ copy_len layout.pages }

@@ -1,8 +1,8 @@
 // Writes to a disk, each kept by a sync of its own.
-ghost use Rattle.std.specs.Prelude.{◌≡◌, ◌≤◌, ◌+◌, ◌<◌, ◌-◌, ◌^◌, ◌∷◌, List, ℕ, length, take, drop, OnOk, OnErr, true, false, IsTrue, ◌↔◌, if◌then◌else◌, slice_index, []};
-ghost use Rattle.gd_disk.specs.Disk.{IfTold, seen_written, Torn, Stands, IsSynced, Answers};
+ghost use Rattle.std.specs.Prelude.{◌≡◌, ◌≤◌, ◌+◌, ◌<◌, ◌^◌, ◌∷◌, length, OnOk, true, if◌then◌else◌, slice_index};
+ghost use Rattle.gd_disk.specs.Disk.{IfTold, seen_written, Torn, IsSynced, Answers};
 ghost use Rattle.gd_disk.specs.Runs.{LeavesOnly, CutsOfRun};
-ghost use Rattle.gd_store.specs.Writing.{seen_shut, IsShutting, IsShut, IsWriting, From, MadeSyncs};
+ghost use Rattle.gd_store.specs.Writing.{seen_shut, IsShutting, IsShut, IsOverOpen, IsWriting, From, MadeSyncs};
 
 use gd_disk::{Disk, Off};
 
@@ -51,6 +51,7 @@ pub(crate) fn shut_open<D: Disk>(disk: &mut D, at: u64, gate: u8) -> Result<(), 
     requires gate { IfTold (D.state disk.old).seen (λ image. slice_index image at ≡ gate) }
     ensures seen { OnOk result ((D.state disk.new).seen ≡ seen_shut at gate (D.state disk.old).seen) }
     ensures shut { OnOk result (IfTold (D.state disk.new).seen (IsShut at)) }
+    ensures any_moment { LeavesOnly (D.state disk.old) (D.state disk.new) (From (D.state disk.old) (IsOverOpen at gate)) }
     ensures answer { Answers result (D.state disk.old) (D.state disk.new) }
     ensures syncs { (D.state disk.new).syncs ≡ (D.state disk.old).syncs }
     ensures cuts { CutsOfRun 0 result (D.state disk.old) (D.state disk.new) }

@@ -1,1 +1,17 @@
 pub mod Books
+pub mod State
+pub mod Lines
+pub mod Offers
+pub mod Openings
+pub mod Items
+pub mod Life
+pub mod Legal
+pub mod Toy
+pub mod Carrying
+pub mod Answered
+pub mod Running
+pub mod Served
+pub mod LinesDone
+pub mod Grammar
+pub mod Script
+pub mod Reads

@@ -1,14 +1,32 @@
 //! The whole program: a script is carried out on a memory, and its report written.
 #![tactic(auto)]
 
-
+mod ahead;
+mod answering;
 mod bill_core;
 mod bill_core_calls;
 mod books;
+mod carrying;
 mod checking;
+mod ended;
+mod giving;
+mod items;
 mod judging;
-
+pub mod laws;
+#[cfg(test)]
+mod line_tests;
+mod lines;
+mod lines_end;
 mod payload_reading;
 mod payload_writing;
+mod promise;
 mod recording;
+mod report;
+mod script_run;
 mod showing;
+mod status;
+mod step;
+
+pub use ended::{Ended, Falls};
+pub use promise::one_legal_history;
+pub use status::Status;

@@ -3,6 +3,7 @@ use Rattle.std.proofs.lemmas.Result.{on_ok_weaker}
 use Rattle.gd_store.specs.Copy.{LiesWithin}
 use Rattle.gd_store.proofs.Commit.{opened}
 use Rattle.gd_store.proofs.Makings.{made_both}
+use Rattle.gd_store.proofs.MakingMoments.{made_a, made_b}
 use Rattle.gd_store.proofs.making.make_both.Goals as goal
 
 pub returns-clause-holds : goal.returns-clause-holds
@@ -14,3 +15,20 @@ returns-clause-holds g c =
     (made_both l 0 c.args.payload.now (0xA5 ∷ c.seal_body.new.body) (omega arith) c.requires.payload (opened l 0 c.args.payload.now c.seal_body.new.body c.seal_body.ensures)
     s1 (g.D.Disk.state c.write_shut.new.disk) (g.D.Disk.state c.write_shut-2.new.disk) within c.write_shut.ensures.answer.size c.in_ok-write_shut.ensures.seen)
     c.write_shut-2.ensures.seen
+
+pub returns-in_err-write_shut-clause-any_moment : goal.returns-in_err-write_shut-clause-any_moment
+returns-in_err-write_shut-clause-any_moment g c =
+    let l = c.args.layout in
+    let body = c.seal_body.new.body in
+    λ synced. made_a l c.args.payload.now (0xA5 ∷ body) c.requires.payload (opened l 0 c.args.payload.now body c.seal_body.ensures) c.requires.within.apart
+    (g.D.Disk.state c.args.disk.now) (g.D.Disk.state c.shut_both.new.disk) (c.shut_both.ensures.any_moment synced)
+    (g.D.Disk.state c.write_shut.new.disk) c.in_ok-shut_both.ensures.synced c.in_ok-shut_both.ensures.shut c.write_shut.ensures.any_moment
+
+pub returns-clause-any_moment : goal.returns-clause-any_moment
+returns-clause-any_moment g c =
+    let l = c.args.layout in
+    let body = c.seal_body.new.body in
+    λ synced. made_b l c.args.payload.now (0xA5 ∷ body) c.requires.payload (opened l 0 c.args.payload.now body c.seal_body.ensures) c.requires.within.apart
+    (g.D.Disk.state c.args.disk.now) (g.D.Disk.state c.shut_both.new.disk) (c.shut_both.ensures.any_moment synced)
+    (g.D.Disk.state c.write_shut.new.disk) c.in_ok-shut_both.ensures.synced c.in_ok-shut_both.ensures.shut c.write_shut.ensures.any_moment
+    (g.D.Disk.state c.write_shut-2.new.disk) (omega (arith, c.shut_both.ensures.answer.size, c.requires.within.within)) c.in_ok-write_shut.ensures.synced c.in_ok-write_shut.ensures.seen c.write_shut-2.ensures.any_moment

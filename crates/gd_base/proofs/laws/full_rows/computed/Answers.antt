@@ -1,0 +1,5 @@
+use Rattle.gd_base.proofs.FullRows.{full_history}
+use Rattle.gd_base.proofs.laws.full_rows.computed.Goals as goal
+
+pub returns : goal.returns
+returns c = full_history

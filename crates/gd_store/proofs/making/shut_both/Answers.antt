@@ -1,0 +1,47 @@
+use Rattle.std.proofs.Common.{◌≡◌, ◌∙◌, sym, subst, ℕ, List, Option, get_or}
+use Rattle.gd_disk.specs.Disk.{IfTold}
+use Rattle.gd_store.specs.Copy.{LiesWithin}
+use Rattle.gd_store.proofs.MakingMoments.{reads, over_read, and_sync, gate_b_stands, while_shutting_a, while_shutting_b}
+use Rattle.gd_store.proofs.making.shut_both.Goals as goal
+
+pub returns-in_err-shut_open-clause-any_moment : goal.returns-in_err-shut_open-clause-any_moment
+returns-in_err-shut_open-clause-any_moment g c =
+    let l = c.args.layout in
+    let old = g.D.Disk.state c.args.disk.now in
+    let s1 = g.D.Disk.state c.read_gate.new.disk in
+    let s2 = g.D.Disk.state c.read_gate-2.new.disk in
+    let s3 = g.D.Disk.state c.shut_open.new.disk in
+    let run = over_read l.a c.in_ok-gate_a.gate_a old s2 s3 (reads old s1 s2 c.read_gate.ensures.any_moment c.read_gate-2.ensures.any_moment) c.shut_open.ensures.any_moment in
+    λ synced. while_shutting_a l old c.requires.within synced c.in_ok-gate_a.gate_a s3 c.in_ok-gate_a.ensures.gate run
+
+pub shut_open-requires-2-clause-gate : goal.shut_open-requires-2-clause-gate
+shut_open-requires-2-clause-gate g c =
+    let l = c.args.layout in
+    let s2 = g.D.Disk.state c.read_gate-2.new.disk in
+    let within = subst (λ (n : ℕ). LiesWithin l n) (sym (c.read_gate-2.ensures.answer.size ∙ c.read_gate.ensures.answer.size)) c.requires.within in
+    let is_b = subst (λ (s : Option (List ℕ)). IfTold s (λ image. get_or image l.b 0 ≡ c.in_ok-gate_b.gate_b)) (sym c.in_ok-gate_b.ensures.seen) c.in_ok-gate_b.ensures.gate in
+    subst (λ (s : Option (List ℕ)). IfTold s (λ image. get_or image l.b 0 ≡ c.in_ok-gate_b.gate_b)) (sym c.in_ok-shut_open.ensures.seen) (gate_b_stands l c.in_ok-gate_a.gate_a c.in_ok-gate_b.gate_b s2 within is_b)
+
+pub returns-in_err-shut_open-2-clause-any_moment : goal.returns-in_err-shut_open-2-clause-any_moment
+returns-in_err-shut_open-2-clause-any_moment g c =
+    let l = c.args.layout in
+    let old = g.D.Disk.state c.args.disk.now in
+    let s1 = g.D.Disk.state c.read_gate.new.disk in
+    let s2 = g.D.Disk.state c.read_gate-2.new.disk in
+    let s3 = g.D.Disk.state c.shut_open.new.disk in
+    let run = over_read l.a c.in_ok-gate_a.gate_a old s2 s3 (reads old s1 s2 c.read_gate.ensures.any_moment c.read_gate-2.ensures.any_moment) c.shut_open.ensures.any_moment in
+    let is_b = subst (λ (s : Option (List ℕ)). IfTold s (λ image. get_or image l.b 0 ≡ c.in_ok-gate_b.gate_b)) c.in_ok-gate_a.ensures.seen c.in_ok-gate_b.ensures.gate in
+    λ synced. while_shutting_b l old c.requires.within synced c.in_ok-gate_a.gate_a c.in_ok-gate_b.gate_b s3 (g.D.Disk.state c.shut_open-2.new.disk) c.in_ok-gate_a.ensures.gate is_b run c.shut_open-2.ensures.any_moment
+
+pub returns-clause-any_moment : goal.returns-clause-any_moment
+returns-clause-any_moment g c =
+    let l = c.args.layout in
+    let old = g.D.Disk.state c.args.disk.now in
+    let s1 = g.D.Disk.state c.read_gate.new.disk in
+    let s2 = g.D.Disk.state c.read_gate-2.new.disk in
+    let s3 = g.D.Disk.state c.shut_open.new.disk in
+    let run = over_read l.a c.in_ok-gate_a.gate_a old s2 s3 (reads old s1 s2 c.read_gate.ensures.any_moment c.read_gate-2.ensures.any_moment) c.shut_open.ensures.any_moment in
+    let is_b = subst (λ (s : Option (List ℕ)). IfTold s (λ image. get_or image l.b 0 ≡ c.in_ok-gate_b.gate_b)) c.in_ok-gate_a.ensures.seen c.in_ok-gate_b.ensures.gate in
+    let s4 = g.D.Disk.state c.shut_open-2.new.disk in
+    λ synced. and_sync l old s4 (g.D.Disk.state c.sync.new.self)
+    (while_shutting_b l old c.requires.within synced c.in_ok-gate_a.gate_a c.in_ok-gate_b.gate_b s3 s4 c.in_ok-gate_a.ensures.gate is_b run c.shut_open-2.ensures.any_moment) c.sync.ensures.loss

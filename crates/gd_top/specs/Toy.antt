@@ -1,0 +1,58 @@
+-- A machine that takes bills of 500, to try the definition on.
+use Rattle.std.specs.Prelude.{◌≡◌, refl, ℕ, ◌+◌, ◌==◌, ◌&&◌, false, if◌then◌else◌, ◌++◌, codes, decimal, replicate}
+use Rattle.gd_base.specs.declared.event.Device.{Device}
+use Rattle.gd_base.specs.declared.event.Event.{Event}
+use Rattle.gd_base.specs.declared.event.Refusal.{Refusal}
+use Rattle.gd_base.specs.declared.event.Reply.{Reply}
+use Rattle.gd_base.specs.Machine.{Machine, Blocks}
+use Rattle.gd_base.specs.Spelled.{Unreadable}
+
+pub record View : Type 0 where
+  pub count : ℕ
+  pub credit : ℕ
+  pub bills : ℕ  -- last number of the bill validator
+  pub starts : ℕ
+  pub kept : Reply
+
+abbrev pub credited : Reply → ℕ → ℕ
+credited Reply.Taken x = x
+credited (Reply.Refused why) x = 0
+
+abbrev pub after : Reply → Event → View → View
+after reply (Event.Bill x) v = record v { credit = v.credit + credited reply x; bills = v.bills + 1; count = v.count + 1; kept = reply }
+after reply _ v = record v { starts = v.starts + 1; count = v.count + 1 }
+
+abbrev pub rule : View → Event → Reply
+rule v (Event.Bill x) = if x == 500 then Reply.Taken else Reply.Refused Refusal.ValueNotEnabled
+rule v _ = Reply.Taken
+
+abbrev pub last : View → Device → ℕ
+last v Device.Bill = v.bills
+last v _ = v.starts
+
+pub count_after : (reply : Reply) (event : Event) (v : View) → (after reply event v).count ≡ v.count + 1
+count_after reply (Event.Bill x) v = refl
+count_after reply _ v = refl
+
+abbrev pub toy : Machine View
+toy = record {
+  digest = replicate 32 0;
+  empty = record { count = 0; credit = 0; bills = 0; starts = 0; kept = Reply.Taken };
+  effect = λ v e. after e.reply e.event v;
+  same = λ v w. (v.count == w.count) && (v.credit == w.credit) && (v.bills == w.bills) && (v.starts == w.starts);
+  count = λ v. v.count;
+  last = last;
+  kept = λ v d. v.kept;
+  rule = rule;
+  is_drawn = λ v e. false;
+  index = λ v. v.starts;
+  open_order = λ v. 0;
+  text = λ w v. codes "BillIn " ++ decimal v.credit ++ codes "\n";
+  credit = λ v. v.credit;
+  spelled = λ payload. Unreadable;
+  count_empty = refl;
+  count_effect = λ v e. count_after e.reply e.event v;
+}
+
+abbrev pub zeros : Blocks
+zeros l i = replicate 16 0

@@ -1,0 +1,17 @@
+//! What a trial gives back.
+
+use super::status::Status;
+use arrayvec::ArrayVec;
+
+/// The numbers of the offers, counted from 1, in which cuts of unit call came, in order.
+pub type Falls = ArrayVec<u32, 256>;
+
+/// How a run of the program ended, and what was handed in.
+#[derive(Drop)]
+pub struct Ended<L, D, W> {
+    pub status: Status,
+    pub falls: Falls,
+    pub lab: L,
+    pub disk: D,
+    pub draws: W,
+}
