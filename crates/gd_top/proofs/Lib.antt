@@ -14,5 +14,7 @@ pub mod Opening
 pub mod OneLine
 pub mod Exits
 pub mod Alike
+pub mod WholeRun
+pub mod FirstOpening
 mod Examples
 mod Rows

@@ -55,3 +55,18 @@ module _ {V : Type 0} (M : Machine V) (B : Blocks) where
       ∙ ap (λ (b : Bool). before line (if b then full else (let o = offer (syncs_of_repair repair + syncs_of_event) s in started M B again repair Done o.fate o.state))) not_full
       ∙ ap (λ (b : Bool). before line (let o : Offer V = unless_broken b (syncs_of_repair repair + syncs_of_event) (counted (syncs_of_repair repair + syncs_of_event) s) in started M B again repair Done o.fate o.state)) whole
       ∙ ap (λ (u : List ℕ). told (line ++ u) (at first_view 0 1 (opened_unseen start starts broken_at))) (append-nil (start_line (M.count first_view) repair))
+
+  -- where the disk fails in it, the copies were read and printed
+  pub opening_breaks : (start : Start V) (starts : List (Start V)) → opens M start.boots ≡ Shows M.empty → M.same M.empty M.empty ≡ true
+      → power_on M B Nothing Done (first (start ∷ starts) (Some 1))
+      ≡ before (power_line 1 start.found) (ends Breaks [] (counted (syncs_of_repair (repaired start.found) + syncs_of_event) (powered starts (first (start ∷ starts) (Some 1)))))
+  opening_breaks start starts shows same =
+      let s = powered starts (first (start ∷ starts) (Some 1)) in
+      let again = reopen M B starts in
+      let repair = repaired start.found in
+      let line = power_line 1 start.found in
+      let full : Told V = (let o = offer (syncs_of_repair repair) s in opened_full M B again Done o.fate o.state) in
+      next_start M B start starts Nothing Done (first (start ∷ starts) (Some 1))
+      ∙ ap (λ (r : Spelled V). before (power_line 1 start.found) (found_open M B again r start.found Nothing Done s)) shows
+      ∙ ap (λ (b : Bool). before line (opened M B again repair Done (if b then s else unexplained M.empty s))) same
+      ∙ ap (λ (b : Bool). before line (if b then full else (let o = offer (syncs_of_repair repair + syncs_of_event) s in started M B again repair Done o.fate o.state))) not_full

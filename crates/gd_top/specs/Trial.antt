@@ -1,21 +1,29 @@
 -- What a whole trial wrote and left, by its status. Each fact speaks of what is told, on one side, and on the other of what the
 -- sink took and of the images that may be found.
-use Rattle.std.specs.Prelude.{◌≡◌, ◌⊎◌, ℕ, ◌+◌, List, [], ◌++◌, map, codes, decimal, Option, None}
+use Rattle.std.specs.Prelude.{◌≡◌, ◌⊎◌, ℕ, ◌+◌, List, [], ◌∷◌, ◌++◌, map, codes, decimal, Option, None, Some}
 use Rattle.std.specs.Io.KnownBytes.{Appends, Consumes}
 use Rattle.gd_base.specs.declared.step.Numbered.{Numbered}
-use Rattle.gd_base.specs.Causes.{AppendsFront}
+use Rattle.gd_base.specs.declared.event.Event.{Event}
+use Rattle.gd_base.specs.Causes.{AppendsFront, Rose}
+use Rattle.gd_base.specs.Legal.{next_entry}
+use Rattle.gd_base.specs.Spelled.{Shows}
 use Rattle.gd_base.specs.Machine.{Machine, Blocks}
 use Rattle.gd_cabinet.specs.Answered.{offered}
-use Rattle.gd_cabinet.specs.Shown.{spelled_boot, IsInBoth, ShowsEither}
+use Rattle.gd_cabinet.specs.Shown.{spelled_boot, shows, IsInBoth, ShowsEither}
 use Rattle.gd_disk.specs.Disk.{DiskState, IsSynced}
 use Rattle.gd_script.specs.declared.item.Item.{Item}
 use Rattle.gd_store.specs.Copy.{boots, found_in}
+use Rattle.gd_store.specs.Repair.{repaired}
+use Rattle.gd_store.specs.declared.found.Found.{Found}
 use Rattle.gd_store.specs.declared.layout.TheConstants.{LAYOUT}
 use Rattle.gd_top.specs.Life.{trial_told, report_of, report_at_read_fault, status_of}
+use Rattle.gd_top.specs.Lines.{power_line, start_line}
+use Rattle.gd_top.specs.LinesDone.{LinesDone, step_of}
 use Rattle.gd_top.specs.Script.{script_of, whole_lines}
 use Rattle.gd_top.specs.State.{Start, Told, Goes, Breaks}
 use Rattle.gd_top.specs.declared.lines_end.LinesEnd.{LinesEnd}
 use Rattle.gd_top.specs.declared.status.Status.{Status}
+use Rattle.gd_top.specs.declared.step.Step.{Step}
 
 -- ================ what the power-ons found
 
@@ -43,7 +51,7 @@ pub record WroteReport {V : Type 0} (M : Machine V) (B : Blocks) (status : Statu
 -- The source failed. The lines whose LF was taken were carried out, whatever stands behind them.
 pub record WroteToFault {V : Type 0} (M : Machine V) (B : Blocks) (script : List ℕ) (rest taken given : Option (List ℕ)) (disk : DiskState) : Type 0 where
   pub came : List ℕ
-  pub consumed : Consumes (Option.Some script) rest came
+  pub consumed : Consumes (Some script) rest came
   pub begins : (more : List ℕ) → (others : List (Option Item)) × (script_of (came ++ more) ≡ whole_lines came ++ others)
   pub run : Told V
   pub is_run : run ≡ trial_told M B (whole_lines came) [] (starts_in M disk.found) None
@@ -113,3 +121,44 @@ status_after LinesEnd.WriteFault = Status.WriteFault
 abbrev pub GivesLast : (status result : Status) → (taken given : Option (List ℕ)) → List ℕ → Type 0
 GivesLast status result taken given text =
     ((result ≡ status) × Appends taken given text) ⊎ ((result ≡ Status.WriteFault) × AppendsFront taken given text)
+
+-- ================ parts of a trial
+
+-- the view after the first start
+abbrev pub first_view : {V : Type 0} → Machine V → Blocks → V
+first_view M B = M.effect M.empty (next_entry M B 0 M.empty Event.Start)
+
+-- the two lines of the first opening
+abbrev pub opening_text : {V : Type 0} → Machine V → Blocks → Found → List ℕ
+opening_text M B found = power_line 1 found ++ start_line (M.count (first_view M B)) (repaired found)
+
+-- what is given where the disk failed in the making or in the first opening: the copies found, where they were read
+abbrev pub broken_text : Option Found → List ℕ
+broken_text None = codes "disk fault\n"
+broken_text (Some found) = power_line 1 found ++ codes "disk fault\n"
+
+-- One image was found, which shows the empty view, and its start was recorded.
+pub record IsFirst {V : Type 0} (M : Machine V) (B : Blocks) (found : Found) (v : V) (disk : DiskState) : Type 0 where
+  pub image : List ℕ
+  pub listed : disk.found ≡ image ∷ []
+  pub read : found ≡ found_in LAYOUT image
+  pub shown : shows M image ≡ Shows M.empty
+  pub started : v ≡ first_view M B
+
+-- what the lines did, and the last line
+pub record RanLines {V : Type 0} (M : Machine V) (B : Blocks) (status : Status) (v : V) (left rest taken given : Option (List ℕ)) (disk : DiskState) : Type 0 where
+  pub end : LinesEnd
+  pub view : V
+  pub lines : ℕ
+  pub between : Option (List ℕ)
+  pub done : (power_ons : ℕ) → LinesDone M B end v view lines power_ons taken between left rest
+  pub last : GivesLast (status_after end) status between given (last_text M end lines view)
+  pub both : (step_of end ≡ Step.DiskFault → ⊥) → (image : List ℕ) → disk.may_find image → IsInBoth M view image
+  pub either : step_of end ≡ Step.DiskFault → (image : List ℕ) → disk.may_find image → (e : Numbered) × ShowsEither M view (offered M B 0 view e) image
+  pub synced : (step_of end ≡ Step.DiskFault → ⊥) → IsSynced disk
+
+-- a status has its cause: a count of what failed rose
+pub record HasCauses (status : Status) (reads_before reads_now writes_before writes_now disks_before disks_now : ℕ) : Type 0 where
+  pub read : status ≡ Status.ReadFault → Rose reads_before reads_now
+  pub written : status ≡ Status.WriteFault → Rose writes_before writes_now
+  pub disk : status ≡ Status.DiskFault → Rose disks_before disks_now

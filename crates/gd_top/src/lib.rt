@@ -28,6 +28,8 @@ mod script_run;
 mod showing;
 mod status;
 mod step;
+mod trial;
+mod trial_run;
 
 pub use ended::{Ended, Falls};
 pub use promise::one_legal_history;

@@ -30,6 +30,7 @@ pub(crate) fn carry_lines<C: Core, S: Source, K: Sink, L: LabDisk, W: Draws>(
     ensures leaves { Leaves (C.meaning (cabinet_core cabinet.old)) (W.block_of (cabinet_draws cabinet.old)) (step_of result.end) (C.view (cabinet_core cabinet.new))
         (L.state (cabinet_disk cabinet.old)) (L.state (cabinet_disk cabinet.new)) (cabinet_stopped cabinet.new) (cabinet_lap cabinet.new) }
     ensures wrote { Wrote (step_of result.end) (K.faults output.old) (K.faults output.new) }
+    ensures few { result.lines ≤ MOST_LINES }
     ensures read { result.end ≡ LinesEnd.ReadFault → Rose (S.faults input.old) (S.faults input.new) }
     ensures later { S.faults input.old ≤ S.faults input.new }
     ensures meaning { C.meaning (cabinet_core cabinet.new) ≡ C.meaning (cabinet_core cabinet.old) }
