@@ -29,7 +29,7 @@ use Rattle.gd_top.specs.Offers.{counted, syncs_of_event}
 use Rattle.gd_top.specs.Openings.{Nothing, Done, power_on, reopen, powered}
 use Rattle.gd_top.specs.Script.{script_of}
 use Rattle.gd_top.specs.State.{Start, State, Told, Breaks, ends, before, followed_by}
-use Rattle.gd_top.specs.Trial.{start_in, starts_in, first_view, broken_text, FirstLines, LeftBy, WroteBroken, WroteFront, RunDone, GivesLast}
+use Rattle.gd_top.specs.Trial.{start_in, starts_in, first_view, broken_text, FirstLines, LeftBy, WroteBroken, WroteFront, RunDone, GivesLast, IsOfTrial, CabinetDone}
 use Rattle.gd_top.specs.declared.status.Status.{Status}
 use Rattle.gd_store.specs.Repair.{repaired, syncs_of_repair}
 use Rattle.gd_top.proofs.Equations.{no_start}
@@ -184,3 +184,13 @@ shown_alike M N image m h = subst (λ (O : Machine _). shows O image ≡ Shows O
 
 pub first_alike : {V : Type 0} (M N : Machine V) (B A : Blocks) → N ≡ M → A ≡ B → first_view M B ≡ first_view N A
 first_alike M N B A m b = sym (ap (λ (O : Machine _). first_view O A) m ∙ ap (λ (D : Blocks). first_view M D) b)
+
+-- a trial by its status, as what a command did
+pub carried_done : {V : Type 0} (M : Machine V) (B : Blocks) (r : Status) (left rest taken gave : Option (List ℕ)) (disk : DiskState) → IsOfTrial r
+    → IfSome left (λ script. RunDone M B r script rest taken gave disk) → CabinetDone M B true r left rest taken gave disk
+carried_done M B Status.Done left rest taken gave disk ok h = (refl, h)
+carried_done M B Status.ScriptFault left rest taken gave disk ok h = (refl, h)
+carried_done M B Status.ReadFault left rest taken gave disk ok h = (refl, h)
+carried_done M B Status.DiskFault left rest taken gave disk ok h = (refl, h)
+carried_done M B Status.WriteFault left rest taken gave disk ok h = inr h
+carried_done M B _ left rest taken gave disk ok h = absurd ok

@@ -1,7 +1,9 @@
 -- What a whole trial wrote and left, by its status. Each fact speaks of what is told, on one side, and on the other of what the
 -- sink took and of the images that may be found.
-use Rattle.std.specs.Prelude.{◌≡◌, ◌⊎◌, ℕ, ◌+◌, List, [], ◌∷◌, ◌++◌, map, codes, decimal, Option, None, Some}
+use Rattle.std.specs.Prelude.{◌≡◌, ◌⊎◌, ℕ, ◌+◌, Bool, true, false, List, [], ◌∷◌, ◌++◌, map, codes, decimal, Option, None, Some, IfSome}
 use Rattle.std.specs.Io.KnownBytes.{Appends, Consumes}
+use Rattle.std.specs.Borrow.{Bor}
+use Rattle.std.specs.Str.{bytes_eq}
 use Rattle.gd_base.specs.declared.step.Numbered.{Numbered}
 use Rattle.gd_base.specs.declared.event.Event.{Event}
 use Rattle.gd_base.specs.Causes.{AppendsFront, Rose}
@@ -162,3 +164,54 @@ pub record HasCauses (status : Status) (reads_before reads_now writes_before wri
   pub read : status ≡ Status.ReadFault → Rose reads_before reads_now
   pub written : status ≡ Status.WriteFault → Rose writes_before writes_now
   pub disk : status ≡ Status.DiskFault → Rose disks_before disks_now
+
+-- ================ the whole program
+
+-- a trial ends with one of these
+abbrev pub IsOfTrial : Status → Type 0
+IsOfTrial Status.Done = Unit {0}
+IsOfTrial Status.ReadFault = Unit {0}
+IsOfTrial Status.WriteFault = Unit {0}
+IsOfTrial Status.DiskFault = Unit {0}
+IsOfTrial Status.ScriptFault = Unit {0}
+IsOfTrial _ = ⊥
+
+-- The words are exactly `trial`.
+abbrev pub is_trial : List (Bor (List ℕ)) → Bool
+is_trial [] = false
+is_trial (word ∷ []) = bytes_eq word.now (codes "trial")
+is_trial (word ∷ other ∷ words) = false
+
+abbrev pub usage_text : List ℕ
+usage_text = codes "usage\n"
+
+abbrev pub no_memory_text : List ℕ
+no_memory_text = codes "no memory\n"
+
+-- both statuses come before anything was made
+abbrev pub IsUnopened : Status → Type 0
+IsUnopened Status.Usage = Unit {0}
+IsUnopened Status.OutOfMemory = Unit {0}
+IsUnopened _ = ⊥
+
+-- why a write may have failed: in the one line of a refused command, or in a report
+abbrev pub WroteFrontOf : {V : Type 0} → Machine V → Blocks → Bool → (left taken given : Option (List ℕ)) → DiskState → Type 0
+WroteFrontOf M B true left taken given disk = AppendsFront taken given no_memory_text ⊎ IfSome left (λ script. WroteFront M B script taken given disk)
+WroteFrontOf M B false left taken given disk = AppendsFront taken given usage_text
+
+-- what a command did, by its status, the words being exactly `trial` or not
+abbrev pub CabinetDone : {V : Type 0} → Machine V → Blocks → (is_trial : Bool) → Status → (left rest taken given : Option (List ℕ)) → DiskState → Type 0
+CabinetDone M B trial Status.Done left rest taken given disk = (trial ≡ true) × IfSome left (λ script. WroteReport M B Status.Done script taken given disk)
+CabinetDone M B trial Status.ScriptFault left rest taken given disk = (trial ≡ true) × IfSome left (λ script. WroteReport M B Status.ScriptFault script taken given disk)
+CabinetDone M B trial Status.ReadFault left rest taken given disk = (trial ≡ true) × IfSome left (λ script. WroteToFault M B script rest taken given disk)
+CabinetDone M B trial Status.DiskFault left rest taken given disk = (trial ≡ true) × IfSome left (λ script. WroteBroken M B script taken given disk)
+CabinetDone M B trial Status.WriteFault left rest taken given disk = WroteFrontOf M B trial left taken given disk
+CabinetDone M B trial Status.Usage left rest taken given disk = (trial ≡ false) × Appends taken given usage_text
+CabinetDone M B trial Status.OutOfMemory left rest taken given disk = (trial ≡ true) × Appends taken given no_memory_text
+CabinetDone M B trial _ left rest taken given disk = ⊥
+
+-- the statuses that can come so far
+abbrev pub IsBuilt : Status → Type 0
+IsBuilt Status.Usage = Unit {0}
+IsBuilt Status.OutOfMemory = Unit {0}
+IsBuilt status = IsOfTrial status

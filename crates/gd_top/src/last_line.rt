@@ -4,7 +4,7 @@ ghost use Rattle.std.specs.Prelude.{◌≡◌, ◌≤◌, ◌⊎◌};
 ghost use Rattle.gd_base.specs.Causes.{Rose};
 ghost use Rattle.gd_base.specs.SoFar.{machine_so_far};
 ghost use Rattle.gd_top.specs.Books.{view_of};
-ghost use Rattle.gd_top.specs.Trial.{last_text, status_after, GivesLast};
+ghost use Rattle.gd_top.specs.Trial.{last_text, status_after, GivesLast, IsOfTrial};
 
 use crate::bill_core::BillCore;
 use crate::lines::MOST_LINES;
@@ -17,6 +17,7 @@ use gd_base::{Sink, Text};
 pub(crate) fn write_last(text: &mut Text, core: &BillCore, ended: &LinesEnded) -> Status
     requires { ended.now.lines ≤ MOST_LINES }
     ensures status { result ≡ status_after ended.now.end }
+    ensures of_trial { IsOfTrial result }
     ensures bytes { text.new.bytes ≡ last_text (machine_so_far core.now.setup) ended.now.end ended.now.lines (view_of core.now.books) }
 {
     text.clear();
@@ -44,6 +45,7 @@ pub(crate) fn write_last(text: &mut Text, core: &BillCore, ended: &LinesEnded) -
 /// Gives the last line, and answers its status unless that fails.
 pub(crate) fn give_last<K: Sink>(output: &mut K, text: &Text, status: Status) -> Status
     ensures given { GivesLast status result (K.taken output.old) (K.taken output.new) text.now.bytes }
+    ensures of_trial { IsOfTrial status → IsOfTrial result }
     ensures cause { (result ≡ status) ⊎ Rose (K.faults output.old) (K.faults output.new) }
     ensures later { K.faults output.old ≤ K.faults output.new }
 {

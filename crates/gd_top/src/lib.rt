@@ -6,6 +6,7 @@ mod answering;
 mod bill_core;
 mod bill_core_calls;
 mod books;
+mod built_in;
 mod carrying;
 mod checking;
 mod ended;
@@ -28,9 +29,13 @@ mod script_run;
 mod showing;
 mod status;
 mod step;
+mod top_call;
 mod trial;
 mod trial_run;
+
+
 
 pub use ended::{Ended, Falls};
 pub use promise::one_legal_history;
 pub use status::Status;
+pub use top_call::cabinet;

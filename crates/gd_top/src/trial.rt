@@ -5,7 +5,7 @@ ghost use Rattle.gd_base.specs.SoFar.{machine_so_far};
 ghost use Rattle.gd_disk.specs.Disk.{Rose};
 ghost use Rattle.gd_top.specs.Books.{view_of};
 ghost use Rattle.gd_top.specs.Memory.{HasEmpty};
-ghost use Rattle.gd_top.specs.Trial.{broken_text, GivesLast, HasCauses, RunDone};
+ghost use Rattle.gd_top.specs.Trial.{broken_text, GivesLast, HasCauses, IsOfTrial, RunDone};
 
 use crate::bill_core::BillCore;
 use crate::ended::Falls;
@@ -40,6 +40,7 @@ fn end_broken<K: Sink, L, W>(
 ) -> Carried<L, W>
     ensures given { GivesLast Status.DiskFault result.status (K.taken output.old) (K.taken output.new) (broken_text found.now) }
     ensures lab { result.lab ≡ lab }
+    ensures of_trial { IsOfTrial result.status }
     ensures cause { (result.status ≡ Status.DiskFault) ⊎ ((result.status ≡ Status.WriteFault) × Rose (K.faults output.old) (K.faults output.new)) }
 {
     write_broken(text, found);
@@ -61,6 +62,7 @@ fn open_memory<S: Source, K: Sink, L: LabDisk, W: Draws>(
     requires first { HasEmpty (machine_so_far parts.core.setup) (L.state parts.disk) (L.state parts.disk) }
     ensures done { IfSome (S.left input.old) (λ script. RunDone (machine_so_far parts.core.setup) (W.block_of parts.draws) result.status script
         (S.left input.new) (K.taken output.old) (K.taken output.new) (L.state result.lab)) }
+    ensures of_trial { IsOfTrial result.status }
     ensures causes { HasCauses result.status (S.faults input.old) (S.faults input.new) (K.faults output.old) (K.faults output.new) (L.state parts.disk).faults (L.state result.lab).faults }
 {
     match Cabinet::open(parts, 0) {
@@ -89,6 +91,7 @@ pub(crate) fn carry<S: Source, K: Sink, L: LabDisk, W: Draws>(
     requires found { (L.state lab).found ≡ [] }
     ensures done { IfSome (S.left input.old) (λ script. RunDone (machine_so_far core.setup) (W.block_of draws) result.status script
         (S.left input.new) (K.taken output.old) (K.taken output.new) (L.state result.lab)) }
+    ensures of_trial { IsOfTrial result.status }
     ensures causes { HasCauses result.status (S.faults input.old) (S.faults input.new) (K.faults output.old) (K.faults output.new) (L.state lab).faults (L.state result.lab).faults }
 {
     let mut text = Text::new();

@@ -9,7 +9,7 @@ ghost use Rattle.gd_store.specs.Repair.{repaired};
 ghost use Rattle.gd_top.specs.Books.{view_of};
 ghost use Rattle.gd_top.specs.Lines.{power_line, start_line};
 ghost use Rattle.gd_top.specs.Running.{IsRunning};
-ghost use Rattle.gd_top.specs.Trial.{HasCauses, IsFirst, RanLines, RunDone};
+ghost use Rattle.gd_top.specs.Trial.{HasCauses, IsOfTrial, IsFirst, RanLines, RunDone};
 
 use crate::bill_core::BillCore;
 use crate::ended::Falls;
@@ -69,6 +69,7 @@ fn run_lines<S: Source, K: Sink, L: LabDisk, W: Draws>(
     ensures ran { RanLines (machine_so_far (cabinet_core cabinet).setup) (W.block_of (cabinet_draws cabinet)) result.status (view_of (cabinet_core cabinet).books)
         (S.left input.old) (S.left input.new) (K.taken output.old) (K.taken output.new) (L.state result.lab) }
     ensures found { (L.state result.lab).found ≡ (L.state (cabinet_disk cabinet)).found }
+    ensures of_trial { IsOfTrial result.status }
     ensures causes { HasCauses result.status (S.faults input.old) (S.faults input.new) (K.faults output.old) (K.faults output.new) (L.state (cabinet_disk cabinet)).faults (L.state result.lab).faults }
 {
     let mut cabinet = cabinet;
@@ -91,6 +92,7 @@ pub(crate) fn run_cabinet<S: Source, K: Sink, L: LabDisk, W: Draws>(
     requires first { IsFirst (machine_so_far (cabinet_core cabinet).setup) (W.block_of (cabinet_draws cabinet)) found.now (view_of (cabinet_core cabinet).books) (L.state (cabinet_disk cabinet)) }
     ensures done { IfSome (S.left input.old) (λ script. RunDone (machine_so_far (cabinet_core cabinet).setup) (W.block_of (cabinet_draws cabinet)) result.status script
         (S.left input.new) (K.taken output.old) (K.taken output.new) (L.state result.lab)) }
+    ensures of_trial { IsOfTrial result.status }
     ensures causes { HasCauses result.status (S.faults input.old) (S.faults input.new) (K.faults output.old) (K.faults output.new) (L.state (cabinet_disk cabinet)).faults (L.state result.lab).faults }
 {
     write_opening(text, cabinet.core().books.count, found);

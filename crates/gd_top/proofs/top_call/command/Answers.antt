@@ -1,0 +1,22 @@
+use Rattle.std.proofs.Common.{◌≡◌, sym, subst, arith, Bool, true}
+use Rattle.gd_base.specs.BuiltIn.{built_in_setup}
+use Rattle.gd_base.specs.SoFar.{machine_so_far}
+use Rattle.gd_base.specs.declared.setup.Setup.{Setup}
+use Rattle.gd_top.specs.Trial.{is_trial, CabinetDone}
+use Rattle.gd_top.proofs.FirstOpening.{carried_done}
+use Rattle.gd_top.proofs.top_call.command.Goals as goal
+
+pub returns-in-Ok-clause-done : goal.returns-in-Ok-clause-done
+returns-in-Ok-clause-done g c =
+    let B = g.W.Draws.block_of c.args.draws in
+    let run = c.carry-carried in
+    let status = run.result.status in
+    let left = g.S.Source.left c.args.input.now in
+    let rest = g.S.Source.left run.new.input in
+    let taken = g.K.Sink.taken c.args.output.now in
+    let gave = g.K.Sink.taken run.new.output in
+    let disk = g.L.Disk.state run.result.lab in
+    let yes : is_trial c.args.words.now ≡ true = grind (arith, c.are_trial.ensures, c.if-not-are_trial.false) in
+    subst (λ (b : Bool). CabinetDone (machine_so_far built_in_setup) B b status left rest taken gave disk) (sym yes)
+    (subst (λ (s : Setup). CabinetDone (machine_so_far s) B true status left rest taken gave disk) c.empty_core.ensures.setup
+    (carried_done (machine_so_far c.empty_core.result.setup) B status left rest taken gave disk run.ensures.of_trial run.ensures.done))
