@@ -17,3 +17,4 @@ pub mod Script
 pub mod Reads
 pub mod Memory
 pub mod Trial
+pub mod Statuses
