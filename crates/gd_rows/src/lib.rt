@@ -1,0 +1,5 @@
+//! Worked rows that cross crates, as tests: whole trials of the program, with what they leave on the disk.
+#![tactic(auto)]
+
+#[cfg(test)]
+mod trials;
