@@ -1,7 +1,6 @@
-use Rattle.std.proofs.Common.{arith}
+use Rattle.std.proofs.Common.{get_or, arith}
 use Rattle.std.specs.Int.{IsInRange}
 use borrow.Author.Count.{below_more}
-use Rattle.std.proofs.Common.{get_or}
 use Rattle.gd_top.proofs.Grammar.{front_value, next_value, no_number, number_read}
 use Rattle.gd_top.proofs.items.read_digits.Goals as goal
 
