@@ -8,6 +8,7 @@ use Rattle.std.specs.Io.KnownBytes.{Appends, Consumes, IsAtEnd, prepend_known}
 use Rattle.gd_base.specs.Machine.{Machine, Blocks}
 use Rattle.gd_script.specs.declared.item.Item.{Item}
 use Rattle.gd_top.specs.declared.lines.LineEnd.{LineEnd}
+use Rattle.gd_top.specs.declared.lines.TheConstants.{LINE_LEN, MOST_LINES}
 use Rattle.gd_top.specs.declared.step.Step.{Step}
 use Rattle.gd_top.specs.Carrying.{Carries, CarriesBy, Broken, Unwritten, at, Unseen}
 use Rattle.gd_top.specs.Grammar.{item_of}
@@ -18,80 +19,12 @@ use Rattle.gd_top.specs.Script.{Pieces, pieces_of, put_onto, put_by, HasNoEnd, l
 use Rattle.gd_top.specs.State.{State, Told, Outcome, Goes, Stops, Differs, Breaks, told, ends, goes_on, followed_by}
 use Rattle.gd_top.proofs.Carried.{carried_then, carried_as, then_by, as_by, carried_none, stopped_here, stays}
 use Rattle.gd_top.proofs.Joins.{lines_append}
-use Rattle.gd_top.proofs.Pieces.{pieces_append, pieces_line, pieces_rest, pieces_long, put_all, join}
-
--- ================ scripts
-
-pub script_append : (came more : List ℕ) → (pieces_of came).rest ≡ [] → script_of (came ++ more) ≡ whole_lines came ++ script_of more
-script_append came more e =
-    ap lines_of_pieces (pieces_append came more e)
-    ∙ (ap (λ (ls : List (Option Item)). ls ++ rest_lines (pieces_of more).rest) (map-append line_of (pieces_of came).lines (pieces_of more).lines)
-    ∙ append_assoc (whole_lines came) (whole_lines more) (rest_lines (pieces_of more).rest))
-
-pub script_line : (line more : List ℕ) → HasNoEnd line → script_of (line ++ 10 ∷ more) ≡ line_of line ∷ script_of more
-script_line line more h = ap lines_of_pieces (pieces_line line more h)
-
-rest_is_fault : (line : List ℕ) → line ≢ [] → rest_lines line ≡ None ∷ []
-rest_is_fault [] n = absurd (n refl)
-rest_is_fault (b ∷ bs) n = refl
-
-pub script_cut : (line : List ℕ) → HasNoEnd line → line ≢ [] → script_of line ≡ None ∷ []
-script_cut line h n = ap lines_of_pieces (pieces_rest line h) ∙ rest_is_fault line n
-
-too_long : (xs l : List ℕ) → 120 < length xs → line_of (xs ++ l) ≡ None
-too_long xs l h =
-    let long : nat_le (length (xs ++ l)) 120 ≡ false = grind (arith, nat_tests, length-append xs l) in
-    ap (λ (b : Bool). if b then item_of (xs ++ l) else None) long
-
-long_lines : (xs : List ℕ) (ls : List (List ℕ)) (r : List ℕ) → 120 < length xs → (tail : List (Option Item)) × (lines_of_pieces (put_all xs ls r) ≡ None ∷ tail)
-long_lines [] ls r h = absurd (omega arith)
-long_lines (x ∷ xs) [] r h = ([], refl)
-long_lines (x ∷ xs) (l ∷ ls) r h = (map line_of ls ++ rest_lines r, ap (λ i. i ∷ (map line_of ls ++ rest_lines r)) (too_long (x ∷ xs) l h))
-
-pub script_long : (xs more : List ℕ) → HasNoEnd xs → 120 < length xs → (tail : List (Option Item)) × (script_of (xs ++ more) ≡ None ∷ tail)
-script_long xs more h n =
-    let found = long_lines xs (pieces_of more).lines (pieces_of more).rest n in
-    (found.0, ap lines_of_pieces (pieces_long xs more h) ∙ found.1)
-
-pub script_whole : (came : List ℕ) → (pieces_of came).rest ≡ [] → script_of came ≡ whole_lines came
-script_whole came e = ap (λ (r : List ℕ). whole_lines came ++ rest_lines r) e ∙ append-nil (whole_lines came)
-
--- one whole line more
-one_line_more : (came line : List ℕ) → (pieces_of came).rest ≡ [] → HasNoEnd line → whole_lines (came ++ (line ++ 10 ∷ [])) ≡ whole_lines came ++ line_of line ∷ []
-one_line_more came line e h =
-    ap (λ (p : Pieces). map line_of p.lines) (pieces_append came (line ++ 10 ∷ []) e)
-    ∙ (map-append line_of (pieces_of came).lines (pieces_of (line ++ 10 ∷ [])).lines
-    ∙ ap (λ (p : Pieces). whole_lines came ++ map line_of p.lines) (pieces_line line [] h))
-
-pub no_line_more : (came line : List ℕ) → (pieces_of came).rest ≡ [] → HasNoEnd line → whole_lines (came ++ line) ≡ whole_lines came
-no_line_more came line e h =
-    ap (λ (p : Pieces). map line_of p.lines) (pieces_append came line e)
-    ∙ (ap (λ (p : Pieces). map line_of ((pieces_of came).lines ++ p.lines)) (pieces_rest line h)
-    ∙ ap (map line_of) (append-nil (pieces_of came).lines))
-
-still_whole : (came line : List ℕ) → (pieces_of came).rest ≡ [] → HasNoEnd line → (pieces_of (came ++ (line ++ 10 ∷ []))).rest ≡ []
-still_whole came line e h =
-    ap (λ (p : Pieces). p.rest) (pieces_append came (line ++ 10 ∷ []) e) ∙ ap (λ (p : Pieces). p.rest) (pieces_line line [] h)
-
--- ================ bytes
-
-pub split_some : (left new : Option (List ℕ)) (bs : List ℕ) → Consumes left new bs → IfSome left (λ script. (rest : List ℕ) × (script ≡ bs ++ rest))
-split_some None new bs p = tt
-split_some (Some x) None bs p = absurd p
-split_some (Some x) (Some y) bs p = (y, p)
-
-pub split_end : (left new : Option (List ℕ)) (bs : List ℕ) → Consumes left new bs → IsAtEnd new → IfSome left (λ script. script ≡ bs)
-split_end None new bs p e = tt
-split_end (Some x) None bs p e = absurd p
-split_end (Some x) (Some y) bs p e = p ∙ (ap (λ (r : List ℕ). bs ++ r) e ∙ append-nil bs)
+use Rattle.gd_top.proofs.Reading.{split_some, split_end, nothing_waits, none_consumed}
+use Rattle.gd_top.proofs.Scripts.{script_append, script_whole, script_line, script_cut, script_long, one_line_more, still_whole, no_line_more}
 
 pub if_some : {A : Type 0} (o : Option A) (F G : A → Type 0) → ((x : A) → F x → G x) → IfSome o F → IfSome o G
 if_some None F G f p = tt
 if_some (Some x) F G f p = f x p
-
-nothing_waits : (new : List ℕ) (a left : Option (List ℕ)) (bs : List ℕ) → new ≡ [] → Consumes left (prepend_known new a) bs → Consumes left a bs
-nothing_waits new None left bs e p = p
-nothing_waits new (Some x) left bs e p = subst (λ (xs : List ℕ). Consumes left (Some (xs ++ x)) bs) e p
 
 -- ================ exits
 
@@ -206,12 +139,12 @@ module _ {V : Type 0} (M : Machine V) (B : Blocks) where
 
   -- a line that is too long
   pub lines_long : (a b : V) (m p : ℕ) (taken given left ahead later : Option (List ℕ)) (line : List ℕ) (x : ℕ)
-      → HasNoEnd line → CarriedLines M B a b m p taken given left ahead → x ≢ 10 → length line ≡ 120 → Consumes ahead later (line ++ x ∷ [])
+      → HasNoEnd line → CarriedLines M B a b m p taken given left ahead → x ≢ 10 → length line ≡ LINE_LEN → Consumes ahead later (line ++ x ∷ [])
       → IfSome left (λ script. Carries (lines_told M B (script_of script)) Stops a b 0 m p taken given)
   lines_long a b m p taken given left ahead later line x h k n len t =
       let bytes = line ++ x ∷ [] in
       let no_end : HasNoEnd bytes = All-append (λ (c : ℕ). c ≢ 10) line (x ∷ []) h (All-cons (λ (c : ℕ). c ≢ 10) x [] n (All-nil (λ (c : ℕ). c ≢ 10))) in
-      let long : 120 < length bytes = omega (arith, length-append line (x ∷ []), len) in
+      let long : LINE_LEN < length bytes = omega (arith, length-append line (x ∷ []), len) in
       if_some left (λ script. (rest : List ℕ) × (script ≡ (k.came ++ bytes) ++ rest)) (λ script. Carries (lines_told M B (script_of script)) Stops a b 0 m p taken given) (λ script f.
           let found_long = script_long bytes f.0 no_end long in
           stopped_at a b b m m p taken given given k.came script None found_long.0
@@ -232,10 +165,6 @@ module _ {V : Type 0} (M : Machine V) (B : Blocks) where
           k.carried q)
       (split_some left later (k.came ++ (line ++ 10 ∷ [])) (Consumes-trans left ahead later k.came (line ++ 10 ∷ []) k.consumed t))
 
-  none_consumed : (waits : List ℕ) (a : Option (List ℕ)) → waits ≡ [] → Consumes a (prepend_known waits a) []
-  none_consumed waits None e = tt
-  none_consumed waits (Some x) e = sym (ap (λ (xs : List ℕ). xs ++ x) e)
-
   -- before the first line
   pub lines_none : (v : V) (p : ℕ) (taken left : Option (List ℕ)) (waits : List ℕ) → waits ≡ [] → CarriedLines M B v v 0 p taken taken left (prepend_known waits left)
   lines_none v p taken left waits e = record { came = []; consumed = none_consumed waits left e; whole = refl; carried = carried_none (lines_told M B []) v 0 p taken (λ s. refl) }
@@ -245,7 +174,7 @@ module _ {V : Type 0} (M : Machine V) (B : Blocks) where
   lines_many a b m n p taken given left ahead e k = subst (λ (l : ℕ). CarriedLines M B a b l p taken given left ahead) e k
 
   -- a line past the last that is allowed: whatever it is
-  past_by : (l : Option Item) (v : V) (n p : ℕ) (x : Unseen V) → nat_lt n 1000000 ≡ false → line_told M B l (at v n p x) ≡ ends Stops [] (at v n p x)
+  past_by : (l : Option Item) (v : V) (n p : ℕ) (x : Unseen V) → nat_lt n MOST_LINES ≡ false → line_told M B l (at v n p x) ≡ ends Stops [] (at v n p x)
   past_by None v n p x full = refl
   past_by (Some item) v n p x full = ap (λ (b : Bool). if b then followed_by (item_told M B item (at v n p x)) one_more else ends Stops [] (at v n p x)) full
 
@@ -259,7 +188,7 @@ module _ {V : Type 0} (M : Machine V) (B : Blocks) where
 
   -- a byte more, after the last line that is allowed
   pub lines_past : (a b : V) (n p : ℕ) (taken given left ahead later : Option (List ℕ)) (byte : ℕ)
-      → nat_lt n 1000000 ≡ false → CarriedLines M B a b n p taken given left ahead → Consumes ahead later (byte ∷ [])
+      → nat_lt n MOST_LINES ≡ false → CarriedLines M B a b n p taken given left ahead → Consumes ahead later (byte ∷ [])
       → IfSome left (λ script. Carries (lines_told M B (script_of script)) Stops a b 0 n p taken given)
   lines_past a b n p taken given left ahead later byte full k t =
       if_some left (λ script. (rest : List ℕ) × (script ≡ (k.came ++ byte ∷ []) ++ rest)) (λ script. Carries (lines_told M B (script_of script)) Stops a b 0 n p taken given) (λ script f.
@@ -268,7 +197,3 @@ module _ {V : Type 0} (M : Machine V) (B : Blocks) where
           (ap script_of (f.1 ∙ append_assoc k.came (byte ∷ []) f.0) ∙ (script_append k.came (byte ∷ f.0) k.whole ∙ ap (λ (ls : List (Option Item)). whole_lines k.came ++ ls) one.1.1))
           k.carried (stopped_here (line_told M B one.0) b n p given (λ x. past_by one.0 b n p x full)))
       (split_some left later (k.came ++ byte ∷ []) (Consumes-trans left ahead later k.came (byte ∷ []) k.consumed t))
-
--- what taking the line did, at the end that it had
-pub takes_at : (old new : Option (List ℕ)) (line : List ℕ) (e f : LineEnd) → e ≡ f → Takes old new line e → Takes old new line f
-takes_at old new line e f is t = subst (Takes old new line) is t

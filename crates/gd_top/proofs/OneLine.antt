@@ -5,6 +5,7 @@ use Rattle.std.proofs.KnownBytes.{Appends-nil}
 use Rattle.gd_base.specs.Causes.{AppendsFront}
 use Rattle.gd_base.specs.Machine.{Machine, Blocks}
 use Rattle.gd_script.specs.declared.item.Item.{Item}
+use Rattle.gd_top.specs.declared.lines.TheConstants.{LINE_LEN, MOST_LINES}
 use Rattle.gd_top.specs.declared.step.Step.{Step}
 use Rattle.gd_top.specs.Carrying.{Unseen, Carries, CarriesBy, at}
 use Rattle.gd_top.specs.Grammar.{item_of}
@@ -12,6 +13,7 @@ use Rattle.gd_top.specs.Items.{item_told, line_told, one_more}
 use Rattle.gd_top.specs.Script.{line_of}
 use Rattle.gd_top.specs.Served.{lines_after}
 use Rattle.gd_top.specs.State.{State, Told, Outcome, Goes, Stops, Differs, Breaks, told, ends, goes_on, followed_by}
+use Rattle.gd_top.proofs.Scripts.{short_line}
 use Rattle.gd_top.proofs.Carried.{stays, carried_then, broken_as, as_at, stopped_here}
 
 -- a front of a text is a front of a longer one
@@ -58,29 +60,23 @@ module _ {V : Type 0} where
         (goes_on_longer taken given t.outcome t one_more k.0, same_view t.outcome t ∙ k.1);
   }
 
--- a line of at most 120 bytes is judged by its item
-short_line : (line : List ℕ) → length line ≤ 120 → line_of line ≡ item_of line
-short_line line h =
-    let short : nat_le (length line) 120 ≡ true = grind (arith, nat_tests, h) in
-    ap (λ (b : Bool). if b then item_of line else None) short
-
 below : (n limit : ℕ) → n < limit → nat_lt n limit ≡ true
 below n limit lt = grind (arith, nat_tests, lt)
 
 module _ {V : Type 0} (M : Machine V) (B : Blocks) where
   -- a line that is an item
-  pub item_line : (r : Step) (v w : V) (n p : ℕ) (taken given : Option (List ℕ)) (line : List ℕ) (item : Item) → length line ≤ 120 → item_of line ≡ Some item → n < 1000000
+  pub item_line : (r : Step) (v w : V) (n p : ℕ) (taken given : Option (List ℕ)) (line : List ℕ) (item : Item) → length line ≤ LINE_LEN → item_of line ≡ Some item → n < MOST_LINES
       → CarriesBy r (item_told M B item) v w n n p taken given → CarriesBy r (line_told M B (line_of line)) v w n (lines_after r n) p taken given
   item_line r v w n p taken given line item short is few h =
       as_at r (λ s. followed_by (item_told M B item s) one_more) (line_told M B (line_of line)) v w n (lines_after r n) p taken given
       (λ x.
           let s = at v n p x in
           ap (λ (l : Option Item). line_told M B l s) (short_line line short ∙ is)
-          ∙ ap (λ (b : Bool). if b then followed_by (item_told M B item s) one_more else ends Stops [] s) (below n 1000000 few))
+          ∙ ap (λ (b : Bool). if b then followed_by (item_told M B item s) one_more else ends Stops [] s) (below n MOST_LINES few))
       (with_one_more r (item_told M B item) v w n p taken given h)
 
   -- a line that is none
-  pub stopped_line : (v : V) (n p : ℕ) (taken : Option (List ℕ)) (line : List ℕ) → length line ≤ 120 → item_of line ≡ None
+  pub stopped_line : (v : V) (n p : ℕ) (taken : Option (List ℕ)) (line : List ℕ) → length line ≤ LINE_LEN → item_of line ≡ None
       → CarriesBy Step.Stops (line_told M B (line_of line)) v v n n p taken taken
   stopped_line v n p taken line short is =
       stopped_here (line_told M B (line_of line)) v n p taken (λ x. ap (λ (l : Option Item). line_told M B l (at v n p x)) (short_line line short ∙ is))

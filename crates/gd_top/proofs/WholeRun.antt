@@ -30,7 +30,7 @@ use Rattle.gd_top.specs.declared.lines_end.LinesEnd.{LinesEnd}
 use Rattle.gd_top.specs.declared.status.Status.{Status}
 use Rattle.gd_top.specs.declared.step.Step.{Step}
 use Rattle.gd_top.proofs.Carried.{whole_always, front_then}
-use Rattle.gd_top.proofs.Exits.{script_append}
+use Rattle.gd_top.proofs.Scripts.{script_append}
 use Rattle.gd_top.proofs.OneLine.{front_longer}
 use Rattle.gd_top.proofs.Opening.{opening_is_told, opened_unseen}
 

@@ -12,7 +12,7 @@ ghost use Rattle.gd_top.specs.Served.{IsServed, lines_after, next_of};
 use crate::answering::carry_event;
 use crate::giving::give_text;
 use crate::items::read_item;
-use crate::lines::LINE_LEN;
+use crate::lines::{LINE_LEN, MOST_LINES};
 use crate::step::Step;
 use gd_base::{Core, Draws, Event, Numbered, Sink, Text};
 use gd_cabinet::Cabinet;
@@ -71,7 +71,7 @@ pub(crate) fn carry_line<C: Core, K: Sink, L: LabDisk, W: Draws>(
     requires short { length line.now ≤ LINE_LEN }
     requires running { IsRunning (L.state (cabinet_disk cabinet.old)) (cabinet_stopped cabinet.old) (cabinet_lap cabinet.old) }
     requires both { (image : List ℕ) → (L.state (cabinet_disk cabinet.old)).may_find image → IsInBoth (C.meaning (cabinet_core cabinet.old)) (C.view (cabinet_core cabinet.old)) image }
-    ensures carried { (lines power_ons : ℕ) → lines < 1000000 → CarriesBy result (line_told (C.meaning (cabinet_core cabinet.old)) (W.block_of (cabinet_draws cabinet.old)) (line_of line.now))
+    ensures carried { (lines power_ons : ℕ) → lines < MOST_LINES → CarriesBy result (line_told (C.meaning (cabinet_core cabinet.old)) (W.block_of (cabinet_draws cabinet.old)) (line_of line.now))
         (C.view (cabinet_core cabinet.old)) (C.view (cabinet_core cabinet.new)) lines (lines_after result lines) power_ons (K.taken output.old) (K.taken output.new) }
     ensures leaves { Leaves (C.meaning (cabinet_core cabinet.old)) (W.block_of (cabinet_draws cabinet.old)) result (C.view (cabinet_core cabinet.new))
         (L.state (cabinet_disk cabinet.old)) (L.state (cabinet_disk cabinet.new)) (cabinet_stopped cabinet.new) (cabinet_lap cabinet.new) }

@@ -3,9 +3,11 @@ use Rattle.std.proofs.lemmas.List.Elements.{All-nil}
 use Rattle.std.specs.Io.KnownBytes.{Consumes, IsAtEnd, prepend_known}
 use Rattle.gd_cabinet.specs.Words.{cabinet_core, cabinet_disk, cabinet_lap, cabinet_stopped}
 use Rattle.gd_top.specs.declared.lines.LineEnd.{LineEnd}
+use Rattle.gd_top.specs.declared.lines.TheConstants.{MOST_LINES}
 use Rattle.gd_top.specs.declared.step.Step.{Step}
 use Rattle.gd_top.proofs.Alike.{line_alike, leaves_alike}
-use Rattle.gd_top.proofs.Exits.{lines_none, lines_on, lines_broken, lines_unwritten, lines_unread, lines_read, lines_cut, lines_long, lines_stopped, lines_past, lines_many, takes_at}
+use Rattle.gd_top.proofs.Exits.{lines_none, lines_on, lines_broken, lines_unwritten, lines_unread, lines_read, lines_cut, lines_long, lines_stopped, lines_past, lines_many}
+use Rattle.gd_top.proofs.Reading.{takes_at}
 use Rattle.gd_top.proofs.script_run.carry_lines.Goals as goal
 
 pub loop-lines-init : goal.loop-lines-init
@@ -109,8 +111,8 @@ returns-in-Ok-None-clause-done g c =
     let old = prepend_known c.loop-lines.ahead (g.S.Source.left c.loop-lines.input) in
     let new = prepend_known c.next_byte.new.ahead (g.S.Source.left c.next_byte.new.source) in
     let byte = c.in-Ok-None.field-0 in
-    let all : c.loop-lines.lines ≡ 1000000 = omega (arith, c.loop-lines-test.false, c.loop-lines.auto.lines-end) in
-    λ p. lines_read _ _ _ _ _ p _ _ _ old new [] (lines_many _ _ _ _ _ 1000000 p _ _ _ old all (c.loop-lines.invariant.carried p)) refl
+    let all : c.loop-lines.lines ≡ MOST_LINES = omega (arith, c.loop-lines-test.false, c.loop-lines.auto.lines-end) in
+    λ p. lines_read _ _ _ _ _ p _ _ _ old new [] (lines_many _ _ _ _ _ MOST_LINES p _ _ _ old all (c.loop-lines.invariant.carried p)) refl
         (subst (λ (b : Option ℕ). Consumes old new (option_to_list b)) c.in-Ok-None.field-0-is c.in-Ok-None.ensures.byte)
         (subst (λ (b : Option ℕ). IfNone b (IsAtEnd new)) c.in-Ok-None.field-0-is c.in-Ok-None.ensures.end)
 
@@ -118,13 +120,13 @@ pub returns-in-Ok-Some-clause-done : goal.returns-in-Ok-Some-clause-done
 returns-in-Ok-Some-clause-done g c =
     let old = prepend_known c.loop-lines.ahead (g.S.Source.left c.loop-lines.input) in
     let new = prepend_known c.next_byte.new.ahead (g.S.Source.left c.next_byte.new.source) in
-    let all : c.loop-lines.lines ≡ 1000000 = omega (arith, c.loop-lines-test.false, c.loop-lines.auto.lines-end) in
-    λ p. lines_past _ _ _ _ 1000000 p _ _ _ old new c.in-Ok-Some.field-0-0 refl (lines_many _ _ _ _ _ 1000000 p _ _ _ old all (c.loop-lines.invariant.carried p))
+    let all : c.loop-lines.lines ≡ MOST_LINES = omega (arith, c.loop-lines-test.false, c.loop-lines.auto.lines-end) in
+    λ p. lines_past _ _ _ _ MOST_LINES p _ _ _ old new c.in-Ok-Some.field-0-0 refl (lines_many _ _ _ _ _ MOST_LINES p _ _ _ old all (c.loop-lines.invariant.carried p))
         (subst (λ (b : Option ℕ). Consumes old new (option_to_list b)) c.in-Ok-Some.field-0-is c.in-Ok-Some.ensures.byte)
 
 pub returns-in-Err-next_byte-clause-done : goal.returns-in-Err-next_byte-clause-done
 returns-in-Err-next_byte-clause-done g c =
     let old = prepend_known c.loop-lines.ahead (g.S.Source.left c.loop-lines.input) in
-    let all : c.loop-lines.lines ≡ 1000000 = omega (arith, c.loop-lines-test.false, c.loop-lines.auto.lines-end) in
+    let all : c.loop-lines.lines ≡ MOST_LINES = omega (arith, c.loop-lines-test.false, c.loop-lines.auto.lines-end) in
     λ p. lines_unread _ _ _ _ _ p _ _ _ old (g.S.Source.left c.next_byte.new.source) c.next_byte.new.ahead [] (All-nil (λ (b : ℕ). b ≢ 10)) c.in-Err-next_byte.ensures.empty
-        (lines_many _ _ _ _ _ 1000000 p _ _ _ old all (c.loop-lines.invariant.carried p)) c.in-Err-next_byte.ensures.none
+        (lines_many _ _ _ _ _ MOST_LINES p _ _ _ old all (c.loop-lines.invariant.carried p)) c.in-Err-next_byte.ensures.none
