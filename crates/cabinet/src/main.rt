@@ -5,9 +5,8 @@ use gd_base::{ListDraws, MemorySource, Reading, Writing};
 use gd_disk::{DISK_LEN, MemoryDisk, MemoryLab};
 use gd_top::{Status, cabinet};
 use std::alloc::AllocError;
-use std::env;
-use std::io;
 use std::process::ExitCode;
+use std::{env, io};
 
 fn main(rt: HostRuntime) -> ExitCode {
     match run(&rt) {

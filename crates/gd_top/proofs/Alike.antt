@@ -1,14 +1,12 @@
 -- The same machine and the same blocks, after some lines.
 use Rattle.std.proofs.Common.{◌≡◌, ◌∙◌, subst, ℕ, Bool, List, Option}
 use Rattle.gd_base.specs.Machine.{Machine, Blocks}
-use Rattle.gd_cabinet.specs.Answered.{offered}
-use Rattle.gd_cabinet.specs.Shown.{IsInBoth, ShowsEither}
 use Rattle.gd_disk.specs.Disk.{DiskState}
 use Rattle.gd_base.specs.Causes.{Rose}
 use Rattle.gd_top.specs.declared.step.Step.{Step}
 use Rattle.gd_top.specs.Carrying.{CarriesBy}
 use Rattle.gd_top.specs.Items.{line_told}
-use Rattle.gd_top.specs.Running.{IsRunning, Leaves}
+use Rattle.gd_top.specs.Running.{Leaves}
 use Rattle.gd_top.specs.Script.{line_of}
 
 module _ {V : Type 0} (M N : Machine V) (B A : Blocks) where
@@ -24,9 +22,11 @@ module _ {V : Type 0} (M N : Machine V) (B A : Blocks) where
       → Leaves N A r v old new is_stopped lap → Leaves M B r v first new is_stopped lap
   leaves_alike r v first old new is_stopped lap m b f g h =
       let k : Leaves M B r v old new is_stopped lap =
-          subst (λ (D : Blocks). Leaves M D r v old new is_stopped lap) b (subst (λ (O : Machine V). Leaves O A r v old new is_stopped lap) m h) in
+      subst (λ (D : Blocks). Leaves M D r v old new is_stopped lap) b (subst (λ (O : Machine V). Leaves O A r v old new is_stopped lap) m h) in
       record {
-        running = k.running; both = k.both; either = k.either;
+        running = k.running;
+        both = k.both;
+        either = k.either;
         broken = λ e. subst (λ (n : ℕ). Rose n new.faults) f (k.broken e);
         faults = λ e. k.faults e ∙ f;
         found = k.found ∙ g;

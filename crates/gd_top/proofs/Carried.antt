@@ -1,5 +1,5 @@
 -- Parts of the code that were carried out one after another.
-use Rattle.std.proofs.Common.{◌≡◌, ◌∙◌, ap, sym, subst, refl, ℕ, ◌+◌, ◌≤◌, ◌<◌, ◌==◌, List, [], ◌∷◌, ◌++◌, append-nil, append_assoc, arith, Option, None, Some, false}
+use Rattle.std.proofs.Common.{◌≡◌, ◌∙◌, ap, sym, subst, refl, ℕ, ◌+◌, ◌≤◌, ◌<◌, ◌==◌, List, [], ◌++◌, append_assoc, arith, Option, None, Some, false}
 use Rattle.std.proofs.lemmas.Bool.Decides.{nat_tests}
 use Rattle.std.proofs.KnownBytes.{Appends-nil, Appends-trans}
 use Rattle.std.specs.Io.KnownBytes.{Appends}
@@ -7,7 +7,7 @@ use Rattle.gd_base.specs.Causes.{AppendsFront}
 use Rattle.gd_top.specs.declared.step.Step.{Step}
 use Rattle.gd_top.specs.Carrying.{Unseen, Moves, Carries, CarriesBy, Broken, Unwritten, GivesText, at, IsWhole}
 use Rattle.gd_top.specs.Offers.{is_broken}
-use Rattle.gd_top.specs.State.{State, Told, Outcome, Goes, Stops, Breaks, told, ends, before, goes_on, followed_by}
+use Rattle.gd_top.specs.State.{State, Told, Outcome, Goes, Stops, told, ends, before, followed_by}
 
 fewer : (b : Option ℕ) (m n : ℕ) → m ≤ n → IsWhole b n → IsWhole b m
 fewer b m n le whole k kle = whole k (omega (arith, le, kle))
@@ -65,7 +65,9 @@ module _ {V : Type 0} where
   pub carried_as : (f g : State V → Told V) (o : Outcome) (a b : V) (l m p : ℕ) (taken given : Option (List ℕ)) → ((s : State V) → g s ≡ f s)
       → Carries f o a b l m p taken given → Carries g o a b l m p taken given
   carried_as f g o a b l m p taken given e h = record {
-    report = h.report; printed = h.printed; moves = h.moves;
+    report = h.report;
+    printed = h.printed;
+    moves = h.moves;
     tells = λ x whole. e (at a l p x) ∙ h.tells x whole;
   }
 
@@ -86,7 +88,9 @@ module _ {V : Type 0} where
   pub broken_as : (f g : State V → Told V) (a last : V) (l p : ℕ) (taken given : Option (List ℕ)) → ((s : State V) → g s ≡ f s)
       → Broken f a last l p taken given → Broken g a last l p taken given
   broken_as f g a last l p taken given e h = record {
-    report = h.report; printed = h.printed; made = h.made;
+    report = h.report;
+    printed = h.printed;
+    made = h.made;
     tells = λ x b. let t = h.tells x b in (t.0, e (at a l p x) ∙ t.1, t.2);
   }
 
@@ -97,9 +101,10 @@ module _ {V : Type 0} where
         let y = h.moves.moved x in
         let first = h.tells x (whole_always x.broken_at (x.offers + h.moves.made) none) in
         let second = k.tells y (h.moves.broken_at x ∙ none) in
-        let joined : followed_by (f (at a l p x)) g ≡ before h.report (g (at b m p y)) = ap (λ (t : Told V). followed_by t g) first in
-        (subst (AppendsFront taken gave) (ap (λ (t : Told V). t.report) (sym joined)) (front_then taken given gave h.report (g (at b m p y)).report h.printed second.0),
-        ap (λ (t : Told V). t.state.view) joined ∙ second.1);
+        let joined : followed_by (f (at a l p x)) g ≡ before h.report (g (at b m p y)) = ap (λ (t : Told V). followed_by t g) first in (
+          subst (AppendsFront taken gave) (ap (λ (t : Told V). t.report) (sym joined)) (front_then taken given gave h.report (g (at b m p y)).report h.printed second.0),
+          ap (λ (t : Told V). t.state.view) joined ∙ second.1,
+        );
   }
 
   pub unwritten_as : (f g : State V → Told V) (a w : V) (l p : ℕ) (taken given : Option (List ℕ)) → ((s : State V) → g s ≡ f s)
@@ -151,7 +156,9 @@ module _ {V : Type 0} where
   as_at Step.Goes f g a b l m p taken given e h = record { report = h.report; printed = h.printed; moves = h.moves; tells = λ x whole. e x ∙ h.tells x whole }
   as_at Step.Stops f g a b l m p taken given e h = record { report = h.report; printed = h.printed; moves = h.moves; tells = λ x whole. e x ∙ h.tells x whole }
   as_at Step.DiskFault f g a b l m p taken given e h = record {
-    report = h.report; printed = h.printed; made = h.made;
+    report = h.report;
+    printed = h.printed;
+    made = h.made;
     tells = λ x broken. let t = h.tells x broken in (t.0, e x ∙ t.1, t.2);
   }
   as_at Step.WriteFault f g a b l m p taken given e h = record {

@@ -1,5 +1,5 @@
 -- What an event tells, by its answer.
-use Rattle.std.proofs.Common.{◌≡◌, ◌∙◌, ap, sym, refl, ℕ, ◌+◌, ◌≤◌, ◌<◌, ◌==◌, subst, inl, inr, Bool, true, false, List, [], ◌∷◌, arith, Option, Some}
+use Rattle.std.proofs.Common.{◌≡◌, ◌∙◌, ap, refl, ℕ, ◌+◌, ◌≤◌, ◌<◌, ◌==◌, subst, inl, inr, Bool, true, [], ◌∷◌, arith, Option, Some}
 use Rattle.std.proofs.lemmas.Bool.Decides.{nat_tests}
 use Rattle.std.specs.Prelude.{codes}
 use Rattle.gd_base.specs.declared.event.Reply.{Reply}
@@ -20,7 +20,7 @@ use Rattle.gd_top.specs.Lines.{answer_line}
 use Rattle.gd_top.specs.Items.{event_told}
 use Rattle.gd_top.specs.Offers.{is_broken, counted, unless_broken, Offer}
 use Rattle.gd_top.specs.Openings.{recorded, power_on}
-use Rattle.gd_top.specs.State.{State, Told, Breaks, told, ends}
+use Rattle.gd_top.specs.State.{Breaks, told, ends}
 use Rattle.gd_top.proofs.Carried.{stays}
 use Rattle.gd_top.proofs.Equations.{answered_new, answered_again, answered_step, answered_full}
 

@@ -1,23 +1,18 @@
 -- How the lines end.
-use Rattle.std.proofs.Common.{◌≡◌, ◌≢◌, ℕ, ◌+◌, ◌≤◌, ◌<◌, nat_le, nat_lt, ◌==◌, List, [], ◌∷◌, ◌++◌, None, Some, IfSome, Option, Bool, true, false, refl, sym, ap, subst, ◌∙◌, append-nil, append_assoc, map, length, arith, length-append, All, if◌then◌else◌}
-use Rattle.std.proofs.lemmas.Bool.Decides.{nat_tests}
-use Rattle.std.proofs.lemmas.List.{map-append}
+use Rattle.std.proofs.Common.{◌≡◌, ◌≢◌, ℕ, ◌<◌, nat_lt, ◌==◌, List, [], ◌∷◌, ◌++◌, None, Some, IfSome, Option, Bool, true, false, refl, sym, ap, subst, ◌∙◌, append-nil, append_assoc, map, length, arith, length-append, if◌then◌else◌}
 use Rattle.std.proofs.lemmas.List.Elements.{All-append, All-cons, All-nil}
-use Rattle.std.proofs.KnownBytes.{Appends-nil, Appends-trans, Consumes-trans, Consumes-nil}
-use Rattle.std.specs.Io.KnownBytes.{Appends, Consumes, IsAtEnd, prepend_known}
+use Rattle.std.proofs.KnownBytes.{Consumes-trans}
+use Rattle.std.specs.Io.KnownBytes.{Consumes, IsAtEnd, prepend_known}
 use Rattle.gd_base.specs.Machine.{Machine, Blocks}
 use Rattle.gd_script.specs.declared.item.Item.{Item}
-use Rattle.gd_top.specs.declared.lines.LineEnd.{LineEnd}
 use Rattle.gd_top.specs.declared.lines.TheConstants.{LINE_LEN, MOST_LINES}
 use Rattle.gd_top.specs.declared.step.Step.{Step}
-use Rattle.gd_top.specs.Carrying.{Carries, CarriesBy, Broken, Unwritten, at, Unseen}
-use Rattle.gd_top.specs.Grammar.{item_of}
+use Rattle.gd_top.specs.Carrying.{Carries, CarriesBy, at, Unseen}
 use Rattle.gd_top.specs.Items.{item_told, line_told, lines_told, one_more}
 use Rattle.gd_top.specs.LinesDone.{CarriedLines, CarriedTaken, BrokenIn, UnwrittenIn}
-use Rattle.gd_top.specs.Reads.{Takes}
 use Rattle.gd_top.specs.Script.{Pieces, pieces_of, put_onto, put_by, HasNoEnd, line_of, rest_lines, lines_of_pieces, script_of, whole_lines}
 use Rattle.gd_top.specs.State.{State, Told, Outcome, Goes, Stops, Differs, Breaks, told, ends, goes_on, followed_by}
-use Rattle.gd_top.proofs.Carried.{carried_then, carried_as, then_by, as_by, carried_none, stopped_here, stays}
+use Rattle.gd_top.proofs.Carried.{carried_then, carried_as, then_by, as_by, carried_none, stopped_here}
 use Rattle.gd_top.proofs.Joins.{lines_append}
 use Rattle.gd_top.proofs.Reading.{split_some, split_end, nothing_waits, none_consumed}
 use Rattle.gd_top.proofs.Scripts.{script_append, script_whole, script_line, script_cut, script_long, one_line_more, still_whole, no_line_more}
@@ -37,13 +32,15 @@ module _ {V : Type 0} (M : Machine V) (B : Blocks) where
   one_line_by Differs t e = refl
   one_line_by Breaks t e = refl
 
-  one_line : (l : Option Item) (s : State V) → lines_told M B (l ∷ []) s ≡ line_told M B l s
+  pub one_line : (l : Option Item) (s : State V) → lines_told M B (l ∷ []) s ≡ line_told M B l s
   one_line l s = one_line_by (line_told M B l s).outcome (line_told M B l s) refl
 
   stops_here : (b c : V) (m n p : ℕ) (given gave : Option (List ℕ)) (l : Option Item) (tail : List (Option Item))
       → Carries (line_told M B l) Stops b c m n p given gave → Carries (λ u. lines_told M B (l ∷ tail) u) Stops b c m n p given gave
   stops_here b c m n p given gave l tail q = record {
-    report = q.report; printed = q.printed; moves = q.moves;
+    report = q.report;
+    printed = q.printed;
+    moves = q.moves;
     tells = λ x whole. ap (λ (t : Told V). followed_by t (λ u. lines_told M B tail u)) (q.tells x whole);
   }
 
@@ -67,7 +64,7 @@ module _ {V : Type 0} (M : Machine V) (B : Blocks) where
       as_by r (λ s. followed_by (lines_told M B (whole_lines came) s) (λ u. lines_told M B (line_of line ∷ []) u)) (lines_told M B (whole_lines (came ++ (line ++ 10 ∷ [])))) a c 0 n p taken gave
       (λ s. ap (λ (ls : List (Option Item)). lines_told M B ls s) (one_line_more came line e h) ∙ lines_append M B (whole_lines came) (line_of line ∷ []) s)
       (then_by r (lines_told M B (whole_lines came)) (λ u. lines_told M B (line_of line ∷ []) u) a b c 0 m n p taken given gave k
-          (as_by r (line_told M B (line_of line)) (λ u. lines_told M B (line_of line ∷ []) u) b c m n p given gave (λ s. one_line (line_of line) s) q))
+      (as_by r (line_told M B (line_of line)) (λ u. lines_told M B (line_of line ∷ []) u) b c m n p given gave (λ s. one_line (line_of line) s) q))
 
   pub lines_on : (a b c : V) (m n p : ℕ) (taken given gave left ahead later : Option (List ℕ)) (line : List ℕ)
       → HasNoEnd line → CarriedLines M B a b m p taken given left ahead → Consumes ahead later (line ++ 10 ∷ [])
@@ -96,11 +93,17 @@ module _ {V : Type 0} (M : Machine V) (B : Blocks) where
       → HasNoEnd line → CarriedLines M B a b m p taken given left ahead → Consumes ahead later (line ++ 10 ∷ [])
       → CarriesBy Step.WriteFault (line_told M B (line_of line)) b c m n p given gave → UnwrittenIn M B a c p taken gave left
   lines_unwritten a b c m n p taken given gave left ahead later line h k t q = record {
-    came = k.came ++ (line ++ 10 ∷ []);
+    came = k.came;
+    line = line;
     more = later;
     consumed = Consumes-trans left ahead later k.came (line ++ 10 ∷ []) k.consumed t;
-    whole = still_whole k.came line k.whole h;
-    unwritten = one_more_line Step.WriteFault a b c m n p taken given gave k.came line k.whole h k.carried q;
+    whole = k.whole;
+    no_end = h;
+    view = b;
+    lines = m;
+    printed = given;
+    carried = k.carried;
+    unwritten = q;
   }
 
   -- the source failed: what came since the last LF is no line
@@ -109,8 +112,10 @@ module _ {V : Type 0} (M : Machine V) (B : Blocks) where
   lines_unread a b m p taken given left ahead later waits line h e k t = record {
     came = k.came ++ line;
     consumed = nothing_waits waits later left (k.came ++ line) e (Consumes-trans left ahead (prepend_known waits later) k.came line k.consumed t);
-    begins = λ more. (script_of (line ++ more),
-        ap script_of (append_assoc k.came line more) ∙ (script_append k.came (line ++ more) k.whole ∙ ap (λ (ls : List (Option Item)). ls ++ script_of (line ++ more)) (sym (no_line_more k.came line k.whole h))));
+    begins = λ more. (
+      script_of (line ++ more),
+      ap script_of (append_assoc k.came line more) ∙ (script_append k.came (line ++ more) k.whole ∙ ap (λ (ls : List (Option Item)). ls ++ script_of (line ++ more)) (sym (no_line_more k.came line k.whole h))),
+    );
     carried = carried_as (lines_told M B (whole_lines k.came)) (lines_told M B (whole_lines (k.came ++ line))) Goes a b 0 m p taken given
         (λ s. ap (λ (ls : List (Option Item)). lines_told M B ls s) (no_line_more k.came line k.whole h)) k.carried;
   }
@@ -121,9 +126,9 @@ module _ {V : Type 0} (M : Machine V) (B : Blocks) where
       → IfSome left (λ script. Carries (lines_told M B (script_of script)) Goes a b 0 m p taken given)
   lines_read a b m p taken given left ahead later line k n t e =
       if_some left (λ script. script ≡ k.came ++ line) (λ script. Carries (lines_told M B (script_of script)) Goes a b 0 m p taken given) (λ script f.
-          let g : script ≡ k.came = f ∙ (ap (λ (l : List ℕ). k.came ++ l) n ∙ append-nil k.came) in
-          carried_as (lines_told M B (whole_lines k.came)) (lines_told M B (script_of script)) Goes a b 0 m p taken given
-          (λ s. ap (λ (bs : List ℕ). lines_told M B (script_of bs) s) g ∙ ap (λ (ls : List (Option Item)). lines_told M B ls s) (script_whole k.came k.whole)) k.carried)
+      let g : script ≡ k.came = f ∙ (ap (λ (l : List ℕ). k.came ++ l) n ∙ append-nil k.came) in
+      carried_as (lines_told M B (whole_lines k.came)) (lines_told M B (script_of script)) Goes a b 0 m p taken given
+      (λ s. ap (λ (bs : List ℕ). lines_told M B (script_of bs) s) g ∙ ap (λ (ls : List (Option Item)). lines_told M B ls s) (script_whole k.came k.whole)) k.carried)
       (split_end left later (k.came ++ line) (Consumes-trans left ahead later k.came line k.consumed t) e)
 
   -- the end, within a line
@@ -132,9 +137,9 @@ module _ {V : Type 0} (M : Machine V) (B : Blocks) where
       → IfSome left (λ script. Carries (lines_told M B (script_of script)) Stops a b 0 m p taken given)
   lines_cut a b m p taken given left ahead later line h k n t e =
       if_some left (λ script. script ≡ k.came ++ line) (λ script. Carries (lines_told M B (script_of script)) Stops a b 0 m p taken given) (λ script f.
-          stopped_at a b b m m p taken given given k.came script None []
-          (ap script_of f ∙ (script_append k.came line k.whole ∙ ap (λ (ls : List (Option Item)). whole_lines k.came ++ ls) (script_cut line h n)))
-          k.carried (fault_here b m p given))
+      stopped_at a b b m m p taken given given k.came script None []
+      (ap script_of f ∙ (script_append k.came line k.whole ∙ ap (λ (ls : List (Option Item)). whole_lines k.came ++ ls) (script_cut line h n)))
+      k.carried (fault_here b m p given))
       (split_end left later (k.came ++ line) (Consumes-trans left ahead later k.came line k.consumed t) e)
 
   -- a line that is too long
@@ -146,10 +151,10 @@ module _ {V : Type 0} (M : Machine V) (B : Blocks) where
       let no_end : HasNoEnd bytes = All-append (λ (c : ℕ). c ≢ 10) line (x ∷ []) h (All-cons (λ (c : ℕ). c ≢ 10) x [] n (All-nil (λ (c : ℕ). c ≢ 10))) in
       let long : LINE_LEN < length bytes = omega (arith, length-append line (x ∷ []), len) in
       if_some left (λ script. (rest : List ℕ) × (script ≡ (k.came ++ bytes) ++ rest)) (λ script. Carries (lines_told M B (script_of script)) Stops a b 0 m p taken given) (λ script f.
-          let found_long = script_long bytes f.0 no_end long in
-          stopped_at a b b m m p taken given given k.came script None found_long.0
-          (ap script_of (f.1 ∙ append_assoc k.came bytes f.0) ∙ (script_append k.came (bytes ++ f.0) k.whole ∙ ap (λ (ls : List (Option Item)). whole_lines k.came ++ ls) found_long.1))
-          k.carried (fault_here b m p given))
+      let found_long = script_long bytes f.0 no_end long in
+      stopped_at a b b m m p taken given given k.came script None found_long.0
+      (ap script_of (f.1 ∙ append_assoc k.came bytes f.0) ∙ (script_append k.came (bytes ++ f.0) k.whole ∙ ap (λ (ls : List (Option Item)). whole_lines k.came ++ ls) found_long.1))
+      k.carried (fault_here b m p given))
       (split_some left later (k.came ++ bytes) (Consumes-trans left ahead later k.came bytes k.consumed t))
 
   -- a whole line that is a script fault
@@ -159,10 +164,10 @@ module _ {V : Type 0} (M : Machine V) (B : Blocks) where
       → IfSome left (λ script. Carries (lines_told M B (script_of script)) Stops a c 0 n p taken gave)
   lines_stopped a b c m n p taken given gave left ahead later line h k t q =
       if_some left (λ script. (rest : List ℕ) × (script ≡ (k.came ++ (line ++ 10 ∷ [])) ++ rest)) (λ script. Carries (lines_told M B (script_of script)) Stops a c 0 n p taken gave) (λ script f.
-          stopped_at a b c m n p taken given gave k.came script (line_of line) (script_of f.0)
-          (ap script_of (f.1 ∙ (append_assoc k.came (line ++ 10 ∷ []) f.0 ∙ ap (λ (bs : List ℕ). k.came ++ bs) (append_assoc line (10 ∷ []) f.0)))
-              ∙ (script_append k.came (line ++ 10 ∷ f.0) k.whole ∙ ap (λ (ls : List (Option Item)). whole_lines k.came ++ ls) (script_line line f.0 h)))
-          k.carried q)
+      stopped_at a b c m n p taken given gave k.came script (line_of line) (script_of f.0)
+      (ap script_of (f.1 ∙ (append_assoc k.came (line ++ 10 ∷ []) f.0 ∙ ap (λ (bs : List ℕ). k.came ++ bs) (append_assoc line (10 ∷ []) f.0)))
+      ∙ (script_append k.came (line ++ 10 ∷ f.0) k.whole ∙ ap (λ (ls : List (Option Item)). whole_lines k.came ++ ls) (script_line line f.0 h)))
+      k.carried q)
       (split_some left later (k.came ++ (line ++ 10 ∷ [])) (Consumes-trans left ahead later k.came (line ++ 10 ∷ []) k.consumed t))
 
   -- before the first line
@@ -192,8 +197,8 @@ module _ {V : Type 0} (M : Machine V) (B : Blocks) where
       → IfSome left (λ script. Carries (lines_told M B (script_of script)) Stops a b 0 n p taken given)
   lines_past a b n p taken given left ahead later byte full k t =
       if_some left (λ script. (rest : List ℕ) × (script ≡ (k.came ++ byte ∷ []) ++ rest)) (λ script. Carries (lines_told M B (script_of script)) Stops a b 0 n p taken given) (λ script f.
-          let one = some_line_by (byte == 10) byte (pieces_of f.0) in
-          stopped_at a b b n n p taken given given k.came script one.0 one.1.0
-          (ap script_of (f.1 ∙ append_assoc k.came (byte ∷ []) f.0) ∙ (script_append k.came (byte ∷ f.0) k.whole ∙ ap (λ (ls : List (Option Item)). whole_lines k.came ++ ls) one.1.1))
-          k.carried (stopped_here (line_told M B one.0) b n p given (λ x. past_by one.0 b n p x full)))
+      let one = some_line_by (byte == 10) byte (pieces_of f.0) in
+      stopped_at a b b n n p taken given given k.came script one.0 one.1.0
+      (ap script_of (f.1 ∙ append_assoc k.came (byte ∷ []) f.0) ∙ (script_append k.came (byte ∷ f.0) k.whole ∙ ap (λ (ls : List (Option Item)). whole_lines k.came ++ ls) one.1.1))
+      k.carried (stopped_here (line_told M B one.0) b n p given (λ x. past_by one.0 b n p x full)))
       (split_some left later (k.came ++ byte ∷ []) (Consumes-trans left ahead later k.came (byte ∷ []) k.consumed t))

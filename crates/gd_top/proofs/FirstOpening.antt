@@ -1,35 +1,31 @@
 -- The first opening, of a memory that has the empty view.
-use Rattle.std.proofs.Common.{◌≡◌, true, ◌⊎◌, inl, inr, ⊎_elim, ◌∙◌, ap, sym, subst, refl, ℕ, ◌+◌, List, [], ◌∷◌, ◌++◌, append-nil, codes, arith, Option, None, Some, IfSome}
+use Rattle.std.proofs.Common.{◌≡◌, true, inl, inr, ◌∙◌, ap, sym, subst, refl, ℕ, ◌+◌, List, [], ◌∷◌, ◌++◌, append-nil, codes, arith, Option, None, Some, IfSome}
 use Rattle.std.specs.Io.KnownBytes.{Appends}
-use Rattle.gd_base.specs.declared.step.Numbered.{Numbered}
-use Rattle.gd_base.specs.declared.event.Event.{Event}
-use Rattle.gd_base.specs.Answer.{answer, after_answer}
+use Rattle.gd_base.specs.Answer.{after_answer}
 use Rattle.gd_base.specs.Causes.{AppendsFront}
 use Rattle.gd_base.specs.Legal.{draw_of}
 use Rattle.gd_base.specs.Machine.{Machine, Blocks}
 use Rattle.gd_base.specs.Opens.{opens}
-use Rattle.gd_base.specs.Spelled.{Spelled, Shows, Foreign, Unreadable}
+use Rattle.gd_base.specs.Spelled.{Shows, Foreign, Unreadable}
 use Rattle.gd_base.proofs.Answer.{answer_new}
 use Rattle.gd_cabinet.specs.Answered.{offered}
-use Rattle.gd_cabinet.specs.Opening.{IsOpening, KeepsView, started, start_of}
+use Rattle.gd_cabinet.specs.Opening.{IsOpening, started, start_of}
 use Rattle.gd_cabinet.specs.Opened.{IsLocked}
 use Rattle.gd_cabinet.specs.Shown.{shows, spelled_boot, ShowsEither}
 use Rattle.gd_cabinet.specs.declared.locked.Locked.{Locked}
-use Rattle.gd_disk.specs.Disk.{DiskState, IfTold, IsSynced}
+use Rattle.gd_disk.specs.Disk.{DiskState, IfTold}
 use Rattle.gd_disk.specs.Runs.{LeavesOnly}
-use Rattle.gd_script.specs.declared.item.Item.{Item}
-use Rattle.gd_store.specs.Copy.{boots, found_in}
+use Rattle.gd_store.specs.Copy.{found_in}
 use Rattle.gd_store.specs.declared.found.Found.{Found}
 use Rattle.gd_store.specs.declared.layout.TheConstants.{LAYOUT}
 use Rattle.gd_top.specs.Items.{lines_told}
-use Rattle.gd_top.specs.Life.{trial_told, report_of}
 use Rattle.gd_top.specs.Lines.{power_line}
 use Rattle.gd_top.specs.Memory.{HasEmpty}
 use Rattle.gd_top.specs.Offers.{counted, syncs_of_event}
-use Rattle.gd_top.specs.Openings.{Nothing, Done, power_on, reopen, powered}
+use Rattle.gd_top.specs.Openings.{Nothing, Done, powered}
 use Rattle.gd_top.specs.Script.{script_of}
 use Rattle.gd_top.specs.State.{Start, State, Told, Breaks, ends, before, followed_by}
-use Rattle.gd_top.specs.Trial.{start_in, starts_in, first_view, broken_text, FirstLines, LeftBy, WroteBroken, WroteFront, RunDone, GivesLast, IsOfTrial, CabinetDone}
+use Rattle.gd_top.specs.Trial.{start_in, starts_in, first_view, broken_text, FirstLines, LeftBy, RunDone, GivesLast, IsOfTrial, CabinetDone}
 use Rattle.gd_top.specs.declared.status.Status.{Status}
 use Rattle.gd_store.specs.Repair.{repaired, syncs_of_repair}
 use Rattle.gd_top.proofs.Equations.{no_start}
@@ -137,7 +133,7 @@ module _ {V : Type 0} (M : Machine V) (B : Blocks) where
   unread_done r (Some script) rest taken gave disk (inl e) =
       by_status Status.DiskFault r script rest taken gave disk e.0 (record { first = unread_first script disk.found; breaks = refl; written = e.1; left = inl refl })
   unread_done r (Some script) rest taken gave disk (inr e) =
-      by_status Status.WriteFault r script rest taken gave disk e.0 (record { first = unread_first script disk.found; written = inl e.1; left = inl refl })
+      by_status Status.WriteFault r script rest taken gave disk e.0 (record { first = unread_first script disk.found; written = inl e.1; reaches = inl refl; left = inl refl })
 
   text_is : (line : List ℕ) → line ++ codes "disk fault\n" ≡ (line ++ []) ++ codes "disk fault\n"
   text_is line = ap (λ (l : List ℕ). l ++ codes "disk fault\n") (sym (append-nil line))
@@ -158,6 +154,7 @@ module _ {V : Type 0} (M : Machine V) (B : Blocks) where
       by_status Status.WriteFault r script rest taken gave disk e.0 (record {
         first = broken_first old new h script disk.found (listed ∙ h.found) same;
         written = inl (subst (λ (bytes : List ℕ). AppendsFront taken gave bytes) (ap (λ (f : Found). power_line 1 f ++ codes "disk fault\n") is ∙ text_is (power_line 1 (found_in LAYOUT h.image))) e.1);
+        reaches = inl refl;
         left = empty_left old new h disk leaves (start_in M h.image);
       })
 

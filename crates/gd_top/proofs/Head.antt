@@ -25,7 +25,7 @@ put_behind place n xs ys bytes e fits =
     let where_it_ends : place + n ≡ length u = omega (arith, both, e) in
     let front : take (place + n) (u ++ v) ≡ u = ap (λ (k : ℕ). take k (u ++ v)) where_it_ends ∙ take-append_seam u v in
     let back : drop (place + n + length ys) (u ++ v) ≡ drop (place + n + length ys) bytes =
-        drop-append-drop (place + length xs) bytes u (place + n + length ys) (omega (arith, e)) both in
+    drop-append-drop (place + length xs) bytes u (place + n + length ys) (omega (arith, e)) both in
     let behind : place + n + length ys ≡ place + length (xs ++ ys) = omega (arith, e, length-append xs ys) in
     (λ i. front i ++ ys ++ back i) ∙ (λ i. append_assoc (take place bytes) xs ys i ++ drop (behind i) bytes)
 

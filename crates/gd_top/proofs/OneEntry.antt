@@ -1,6 +1,5 @@
 -- What one entry more does to the books.
-use Rattle.std.proofs.Common.{◌≡◌, ◌∙◌, ap, sym, refl, ℕ, zero, suc, ◌+◌, ◌*◌, ◌^◌, ◌<◌, ◌≤◌, List, [], ◌∷◌, Bool, true, false, if◌then◌else◌, nat_lt, length, map, sum, get_or, slice_set, arith, Option, Some, None}
-
+use Rattle.std.proofs.Common.{◌≡◌, ◌∙◌, refl, ℕ, zero, suc, ◌+◌, ◌^◌, ◌<◌, ◌≤◌, List, [], ◌∷◌, Bool, true, false, if◌then◌else◌, nat_lt, length, map, sum, get_or, slice_set, arith, Option, Some, None}
 use Rattle.gd_base.specs.declared.event.Device.{Device}
 use Rattle.gd_base.specs.declared.event.Event.{Event}
 use Rattle.gd_base.specs.declared.event.Refusal.{Refusal}

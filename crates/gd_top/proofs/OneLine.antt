@@ -1,5 +1,5 @@
 -- One line, by its item.
-use Rattle.std.proofs.Common.{◌≡◌, ◌∙◌, ap, sym, subst, refl, ℕ, ◌+◌, ◌<◌, ◌≤◌, nat_lt, nat_le, Bool, true, false, List, [], ◌∷◌, ◌++◌, append-nil, append_assoc, length, arith, if◌then◌else◌, Option, None, Some}
+use Rattle.std.proofs.Common.{◌≡◌, ◌∙◌, ap, sym, refl, ℕ, ◌+◌, ◌<◌, ◌≤◌, nat_lt, Bool, true, List, [], ◌++◌, append_assoc, length, arith, if◌then◌else◌, Option, None, Some}
 use Rattle.std.proofs.lemmas.Bool.Decides.{nat_tests}
 use Rattle.std.proofs.KnownBytes.{Appends-nil}
 use Rattle.gd_base.specs.Causes.{AppendsFront}
@@ -7,19 +7,20 @@ use Rattle.gd_base.specs.Machine.{Machine, Blocks}
 use Rattle.gd_script.specs.declared.item.Item.{Item}
 use Rattle.gd_top.specs.declared.lines.TheConstants.{LINE_LEN, MOST_LINES}
 use Rattle.gd_top.specs.declared.step.Step.{Step}
-use Rattle.gd_top.specs.Carrying.{Unseen, Carries, CarriesBy, at}
+use Rattle.gd_top.specs.Carrying.{Carries, CarriesBy, at}
 use Rattle.gd_top.specs.Grammar.{item_of}
 use Rattle.gd_top.specs.Items.{item_told, line_told, one_more}
 use Rattle.gd_top.specs.Script.{line_of}
 use Rattle.gd_top.specs.Served.{lines_after}
-use Rattle.gd_top.specs.State.{State, Told, Outcome, Goes, Stops, Differs, Breaks, told, ends, goes_on, followed_by}
+use Rattle.gd_top.specs.State.{State, Told, Outcome, Goes, Stops, Differs, Breaks, ends, goes_on, followed_by}
 use Rattle.gd_top.proofs.Scripts.{short_line}
-use Rattle.gd_top.proofs.Carried.{stays, carried_then, broken_as, as_at, stopped_here}
+use Rattle.gd_top.proofs.Carried.{stays, carried_then, as_at, stopped_here}
 
 -- a front of a text is a front of a longer one
 pub front_longer : (taken given : Option (List ℕ)) (text more : List ℕ) → AppendsFront taken given text → AppendsFront taken given (text ++ more)
 front_longer taken given text more p = record {
-  front = p.front; rest = p.rest ++ more;
+  front = p.front;
+  rest = p.rest ++ more;
   whole = sym (append_assoc p.front p.rest more) ∙ ap (λ (xs : List ℕ). xs ++ more) p.whole;
   appended = p.appended;
 }
@@ -46,11 +47,15 @@ module _ {V : Type 0} where
       → CarriesBy r (λ s. followed_by (f s) one_more) v w n (lines_after r n) p taken given
   with_one_more Step.Goes f v w n p taken given h = carried_then f one_more Goes v w w n n (n + 1) p taken given given h (counts_one w n p given)
   with_one_more Step.Stops f v w n p taken given h = record {
-    report = h.report; printed = h.printed; moves = h.moves;
+    report = h.report;
+    printed = h.printed;
+    moves = h.moves;
     tells = λ x whole. ap (λ (t : Told V). followed_by t one_more) (h.tells x whole);
   }
   with_one_more Step.DiskFault f v w n p taken given h = record {
-    report = h.report; printed = h.printed; made = h.made;
+    report = h.report;
+    printed = h.printed;
+    made = h.made;
     tells = λ x broken. let t = h.tells x broken in (t.0, ap (λ (t : Told V). followed_by t one_more) t.1, t.2);
   }
   with_one_more Step.WriteFault f v w n p taken given h = record {
@@ -70,9 +75,9 @@ module _ {V : Type 0} (M : Machine V) (B : Blocks) where
   item_line r v w n p taken given line item short is few h =
       as_at r (λ s. followed_by (item_told M B item s) one_more) (line_told M B (line_of line)) v w n (lines_after r n) p taken given
       (λ x.
-          let s = at v n p x in
-          ap (λ (l : Option Item). line_told M B l s) (short_line line short ∙ is)
-          ∙ ap (λ (b : Bool). if b then followed_by (item_told M B item s) one_more else ends Stops [] s) (below n MOST_LINES few))
+      let s = at v n p x in
+      ap (λ (l : Option Item). line_told M B l s) (short_line line short ∙ is)
+      ∙ ap (λ (b : Bool). if b then followed_by (item_told M B item s) one_more else ends Stops [] s) (below n MOST_LINES few))
       (with_one_more r (item_told M B item) v w n p taken given h)
 
   -- a line that is none

@@ -1,5 +1,5 @@
 -- What the first opening tells.
-use Rattle.std.proofs.Common.{◌≡◌, ◌∙◌, ap, sym, refl, ℕ, ◌+◌, ◌≤◌, ◌<◌, ◌^◌, Bool, true, false, nat_le, append-nil, if◌then◌else◌, List, [], ◌∷◌, ◌++◌, arith, Option, None, Some}
+use Rattle.std.proofs.Common.{◌≡◌, ◌∙◌, ap, ℕ, ◌+◌, Bool, true, false, append-nil, if◌then◌else◌, List, [], ◌∷◌, ◌++◌, arith, Option, Some}
 use Rattle.std.proofs.lemmas.Bool.Decides.{nat_tests}
 use Rattle.gd_base.specs.declared.event.Event.{Event}
 use Rattle.gd_base.specs.Answer.{is_full}
@@ -8,11 +8,11 @@ use Rattle.gd_base.specs.Machine.{Machine, Blocks}
 use Rattle.gd_base.specs.Opens.{opens}
 use Rattle.gd_base.specs.Spelled.{Spelled, Shows}
 use Rattle.gd_store.specs.Repair.{repaired, syncs_of_repair}
-use Rattle.gd_top.specs.Carrying.{Unseen, at, IsWhole}
+use Rattle.gd_top.specs.Carrying.{Unseen, at}
 use Rattle.gd_top.specs.Life.{unopened}
 use Rattle.gd_top.specs.Lines.{power_line, start_line}
 use Rattle.gd_top.specs.Offers.{is_broken, counted, unless_broken, Offer, offer, syncs_of_event}
-use Rattle.gd_top.specs.Openings.{Reopening, Nothing, Done, reopen, found_open, powered, opened, started, opened_full, unexplained, power_on}
+use Rattle.gd_top.specs.Openings.{Nothing, Done, reopen, found_open, powered, opened, started, opened_full, unexplained, power_on}
 use Rattle.gd_top.specs.State.{Start, State, Told, Breaks, told, ends, before}
 use Rattle.gd_top.proofs.Equations.{next_start}
 

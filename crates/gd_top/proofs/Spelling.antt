@@ -1,8 +1,8 @@
 -- What a payload spells, by the two tests on the books that were read from it.
-use Rattle.std.proofs.Common.{◌≡◌, ◌∙◌, ap, sym, ℕ, List, Bool, ◌&&◌, if◌then◌else◌}
+use Rattle.std.proofs.Common.{◌≡◌, ◌∙◌, ap, ℕ, List, Bool, ◌&&◌, if◌then◌else◌}
 use Rattle.gd_base.specs.Payload.{payload_of}
 use Rattle.gd_base.specs.SoFar.{spelled_so_far, view_at}
-use Rattle.gd_base.specs.Spelled.{Spelled, Shows, Unreadable}
+use Rattle.gd_base.specs.Spelled.{Shows, Unreadable}
 use Rattle.gd_base.specs.Spelling.{is_possible}
 use Rattle.gd_base.specs.TheMachine.{same_numbers}
 use Rattle.gd_base.specs.View.{View}

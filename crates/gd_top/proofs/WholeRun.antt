@@ -1,5 +1,5 @@
 -- What a whole trial wrote, from its parts.
-use Rattle.std.proofs.Common.{◌≡◌, ◌⊎◌, inl, inr, ◌∙◌, ap, sym, subst, refl, ℕ, ◌+◌, ◌==◌, Bool, true, false, List, [], ◌∷◌, ◌++◌, append_assoc, append-nil, codes, arith, Option, None, Some, IfSome}
+use Rattle.std.proofs.Common.{◌≡◌, inl, inr, ◌∙◌, ap, sym, subst, refl, ℕ, ◌+◌, true, false, List, [], ◌∷◌, ◌++◌, append-nil, codes, arith, Option, None, Some, IfSome}
 use Rattle.std.proofs.lemmas.Bool.Decides.{nat_tests}
 use Rattle.std.proofs.KnownBytes.{Appends-trans}
 use Rattle.std.specs.Io.KnownBytes.{Appends, Consumes}
@@ -13,24 +13,26 @@ use Rattle.gd_cabinet.specs.Shown.{shows, IsInBoth, ShowsEither}
 use Rattle.gd_cabinet.proofs.Showing.{settled_shows}
 use Rattle.gd_disk.specs.Disk.{DiskState, IsSynced}
 use Rattle.gd_script.specs.declared.item.Item.{Item}
-use Rattle.gd_store.specs.Copy.{boots, chosen, copy_a, copy_b, state_of, stored_payload, HoldsBoth}
+use Rattle.gd_store.specs.Copy.{chosen, copy_a, copy_b, state_of, stored_payload}
 use Rattle.gd_store.specs.declared.copy.CopyState.{CopyState}
 use Rattle.gd_store.specs.declared.found.Found.{Found}
 use Rattle.gd_store.specs.declared.layout.TheConstants.{LAYOUT}
 use Rattle.gd_store.proofs.Sealed.{same_bytes}
-use Rattle.gd_top.specs.Carrying.{Unseen, Carries, Broken, Unwritten, at}
-use Rattle.gd_top.specs.Items.{lines_told}
-use Rattle.gd_top.specs.Life.{trial_told, report_of, report_at_read_fault, status_of, last_line}
+use Rattle.gd_top.specs.Carrying.{Unseen, Carries, at}
+use Rattle.gd_top.specs.Items.{line_told, lines_told}
+use Rattle.gd_top.specs.Life.{trial_told, status_of, last_line}
 use Rattle.gd_top.specs.LinesDone.{CarriedTaken, BrokenIn, UnwrittenIn, LinesDone, step_of}
 use Rattle.gd_top.specs.Offers.{is_broken}
-use Rattle.gd_top.specs.Script.{script_of, whole_lines, pieces_of}
-use Rattle.gd_top.specs.State.{Start, State, Told, Outcome, Goes, Stops, Breaks, told, before, followed_by}
+use Rattle.gd_top.specs.Script.{line_of, script_of, whole_lines, pieces_of}
+use Rattle.gd_top.specs.State.{Start, Told, Outcome, Goes, Stops, Breaks, told, before, followed_by}
 use Rattle.gd_top.specs.Trial.{start_in, starts_in, first_view, opening_text, WroteReport, WroteToFault, FirstLines, LeftBy, WroteBroken, WroteFront, RunDone, GivesLast, last_text, status_after, RanLines, IsFirst}
 use Rattle.gd_top.specs.declared.lines_end.LinesEnd.{LinesEnd}
 use Rattle.gd_top.specs.declared.status.Status.{Status}
 use Rattle.gd_top.specs.declared.step.Step.{Step}
 use Rattle.gd_top.proofs.Carried.{whole_always, front_then}
-use Rattle.gd_top.proofs.Scripts.{script_append}
+use Rattle.gd_top.proofs.Exits.{one_line}
+use Rattle.gd_top.proofs.Joins.{lines_append}
+use Rattle.gd_top.proofs.Scripts.{script_append, one_line_more, still_whole}
 use Rattle.gd_top.proofs.OneLine.{front_longer}
 use Rattle.gd_top.proofs.Opening.{opening_is_told, opened_unseen}
 
@@ -65,7 +67,9 @@ begins_script script more came whole t =
 -- what goes on with nothing more
 front_still : (a b c : Option (List ℕ)) (r : List ℕ) → AppendsFront a b r → Appends b c [] → AppendsFront a c r
 front_still a b c r p q = record {
-  front = p.front; rest = p.rest; whole = p.whole;
+  front = p.front;
+  rest = p.rest;
+  whole = p.whole;
   appended = subst (λ (xs : List ℕ). Appends a c xs) (append-nil p.front) (Appends-trans a b c p.front [] p.appended q);
 }
 
@@ -142,6 +146,7 @@ module _ {V : Type 0} (M : Machine V) (B : Blocks) (image : List ℕ) (shown : s
         is_run = carried_is o (script_of script) w n mid given k;
       };
       written = inl (front_then taken given gave (opening ++ k.report) (last_line M o (at w n 1 (k.moves.moved (unseen None)))) (Appends-trans taken mid given opening k.report opened k.printed) last);
+      reaches = inr (inl (last.front, Appends-trans taken given gave (opening ++ k.report) last.front (Appends-trans taken mid given opening k.report opened k.printed) last.appended));
       left = inr (λ i may. (any_event, inl (holds_shows M w i (both i may))));
     }
 
@@ -181,6 +186,7 @@ module _ {V : Type 0} (M : Machine V) (B : Blocks) (image : List ℕ) (shown : s
         is_run = carried_is Goes (whole_lines k.came) w n mid given k.carried;
       };
       written = inr (front_then taken given gave (opening ++ k.carried.report) (codes "read fault\n") (Appends-trans taken mid given opening k.carried.report opened k.carried.printed) last);
+      reaches = inr (inl (last.front, Appends-trans taken given gave (opening ++ k.carried.report) last.front (Appends-trans taken mid given opening k.carried.report opened k.carried.printed) last.appended));
       left = inr (λ i may. (any_event, inl (holds_shows M w i (both i may))));
     }
 
@@ -219,6 +225,7 @@ module _ {V : Type 0} (M : Machine V) (B : Blocks) (image : List ℕ) (shown : s
     front_broken script w given gave k last either = record {
       first = broken_first script w given k;
       written = inl (front_then taken given gave (opening ++ k.broken.report) (codes "disk fault\n") (Appends-trans taken mid given opening k.broken.report opened k.broken.printed) last);
+      reaches = inr (inl (last.front, Appends-trans taken given gave (opening ++ k.broken.report) last.front (Appends-trans taken mid given opening k.broken.report opened k.broken.printed) last.appended));
       left = broken_left script w given k either;
     }
 
@@ -226,19 +233,37 @@ module _ {V : Type 0} (M : Machine V) (B : Blocks) (image : List ℕ) (shown : s
     front_lines : (script : List ℕ) (w : V) (given gave : Option (List ℕ)) → UnwrittenIn M B (first_view M B) w 1 mid given (Some script) → Appends given gave []
         → ((i : List ℕ) → disk.may_find i → IsInBoth M w i) → WroteFront M B script taken gave disk
     front_lines script w given gave k nothing both =
-        let t = lines_told M B (whole_lines k.came) (at (first_view M B) 0 1 (unseen None)) in
-        let f = k.unwritten.tells (unseen None) refl in
+        let earlier = whole_lines k.came in
+        let l = line_of k.line in
+        let x = k.carried.moves.moved (unseen None) in
+        let s = at k.view k.lines 1 x in
+        let t = line_told M B l s in
+        let f = k.unwritten.tells x (k.carried.moves.broken_at (unseen None)) in
+        let q = front_still k.printed given gave t.report f.0 nothing in
+        let began = begins_script script k.more (k.came ++ (k.line ++ 10 ∷ [])) (still_whole k.came k.line k.whole k.no_end) k.consumed in
         record {
           first = record {
-            lines = whole_lines k.came;
-            begins = begins_script script k.more k.came k.whole k.consumed;
+            lines = earlier ++ l ∷ [];
+            begins = (began.0, began.1 ∙ ap (λ (ls : List (Option Item)). ls ++ began.0) (one_line_more k.came k.line k.whole k.no_end));
             starts = start ∷ [];
             of_found = ([], ap (λ (images : List (List ℕ)). starts_in M images) listed);
             broken_at = None;
-            run = before opening t;
-            is_run = sym (run_is None (whole_lines k.came) refl);
+            run = before opening (before k.carried.report t);
+            is_run = sym (run_is None (earlier ++ l ∷ []) refl ∙ ap (λ (u : Told V). before opening u)
+                (lines_append M B earlier (l ∷ []) (at (first_view M B) 0 1 (unseen None))
+                ∙ (ap (λ (u : Told V). followed_by u (λ z. lines_told M B (l ∷ []) z)) (k.carried.tells (unseen None) (whole_always None ((unseen None).offers + k.carried.moves.made) refl))
+                ∙ ap (λ (u : Told V). before k.carried.report u) (one_line M B l s))));
           };
-          written = inl (front_longer taken gave (opening ++ t.report) (last_line M t.outcome t.state) (front_then taken mid gave opening t.report opened (front_still mid given gave t.report f.0 nothing)));
+          written = inl (front_longer taken gave (opening ++ (k.carried.report ++ t.report)) (last_line M t.outcome t.state)
+              (front_then taken mid gave opening (k.carried.report ++ t.report) opened (front_then mid k.printed gave k.carried.report t.report k.carried.printed q)));
+          reaches = inr (inr (
+            earlier,
+            l,
+            refl,
+            q.front,
+            subst (λ (u : Told V). Appends taken gave (u.report ++ q.front)) (carried_is Goes earlier k.view k.lines mid k.printed k.carried)
+                (Appends-trans taken k.printed gave (opening ++ k.carried.report) q.front (Appends-trans taken mid k.printed opening k.carried.report opened k.carried.printed) q.appended),
+          ));
           left = inr (λ i may. (any_event, inl (holds_shows M w i (both i may) ∙ ap (λ (v : V). Shows v) (sym f.1))));
         }
 
@@ -288,6 +313,7 @@ module _ {V : Type 0} (M : Machine V) (B : Blocks) (image : List ℕ) (shown : s
           is_run = sym (run_is None [] refl);
         };
         written = inl (front_longer taken gave (opening ++ []) (last_line M t.outcome t.state) (front_longer taken gave opening [] p));
+        reaches = inl refl;
         left = inr (λ i may. (any_event, inl (holds_shows M (first_view M B) i (both i may))));
       }
 
@@ -315,4 +341,4 @@ module _ {V : Type 0} (M : Machine V) (B : Blocks) (same : M.same M.empty M.empt
   run_front r found v (Some script) rest taken gave disk is f p both =
       subst (λ (s : Status). RunDone M B s script rest taken gave disk) (sym is)
       (front_opening M B f.image f.shown same script taken gave disk f.listed (subst (λ (x : Found). AppendsFront taken gave (opening_text M B x)) f.read p)
-          (λ i may. subst (λ (u : V). IsInBoth M u i) f.started (both i may)))
+      (λ i may. subst (λ (u : V). IsInBoth M u i) f.started (both i may)))

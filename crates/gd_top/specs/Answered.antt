@@ -1,5 +1,5 @@
 -- What is printed of an answer.
-use Rattle.std.specs.Prelude.{ℕ, if◌then◌else◌, List, codes}
+use Rattle.std.specs.Prelude.{ℕ, List, codes}
 use Rattle.gd_base.specs.declared.step.Numbered.{Numbered}
 use Rattle.gd_base.specs.declared.step.Stepped.{Stepped}
 use Rattle.gd_base.specs.Entry.{device_of}

@@ -6,7 +6,7 @@ use Rattle.gd_base.specs.Causes.{AppendsFront}
 use Rattle.gd_base.specs.Entry.{Entry}
 use Rattle.gd_top.specs.Offers.{is_broken}
 use Rattle.gd_top.specs.declared.step.Step.{Step}
-use Rattle.gd_top.specs.State.{Start, State, Told, Outcome, Goes, Stops, Breaks, Phase, On}
+use Rattle.gd_top.specs.State.{Start, State, Told, Outcome, Goes, Stops, Breaks, On}
 
 -- what no code keeps: the history, what the offers so far were, and what is still to come
 pub record Unseen (V : Type 0) : Type 0 where

@@ -87,10 +87,20 @@ pub record WroteBroken {V : Type 0} (M : Machine V) (B : Blocks) (script : List 
   pub written : Appends taken given (report_of M first.run)
   pub left : LeftBy M B first.run disk
 
+-- Where the sink failed: in the lines of the first opening, in the last line of the report, or in what the last of these
+-- lines of the script prints. All that is told before it was written.
+abbrev pub ReachesLast : {V : Type 0} {script : List ℕ} {found : List (List ℕ)} → (M : Machine V) (B : Blocks) → FirstLines M B script found → Option (List ℕ) → Option (List ℕ) → Type 0
+ReachesLast M B first taken given =
+    (first.lines ≡ [])
+    ⊎ (((part : List ℕ) × Appends taken given (first.run.report ++ part))
+    ⊎ ((earlier : List (Option Item)) × (line : Option Item) × (first.lines ≡ earlier ++ line ∷ [])
+    × (part : List ℕ) × Appends taken given ((trial_told M B earlier [] first.starts first.broken_at).report ++ part)))
+
 -- The sink failed: a front of what is told was written.
 pub record WroteFront {V : Type 0} (M : Machine V) (B : Blocks) (script : List ℕ) (taken given : Option (List ℕ)) (disk : DiskState) : Type 0 where
   pub first : FirstLines M B script disk.found
   pub written : AppendsFront taken given (report_of M first.run) ⊎ AppendsFront taken given (report_at_read_fault first.run)
+  pub reaches : ReachesLast M B first taken given
   pub left : LeftBy M B first.run disk
 
 -- by the status; no other comes

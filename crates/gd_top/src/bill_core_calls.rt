@@ -15,9 +15,7 @@ use crate::judging::judge;
 use crate::payload_writing::write_books;
 use crate::recording::{kept_of, recorded};
 use crate::showing::show_books;
-use gd_base::{
-    Block, Core, Device, Loaded, MOST_ENTRIES, Numbered, Reply, Stepped, Text, What,
-};
+use gd_base::{Block, Core, Device, Loaded, MOST_ENTRIES, Numbered, Reply, Stepped, Text, What};
 
 impl BillCore {
     /// A device's last number, and the reply to it.

@@ -33,8 +33,6 @@ mod top_call;
 mod trial;
 mod trial_run;
 
-
-
 pub use ended::{Ended, Falls};
 pub use promise::one_legal_history;
 pub use status::Status;

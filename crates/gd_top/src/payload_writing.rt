@@ -73,9 +73,7 @@ fn kept_image(last: u64, reply: Option<Reply>) -> [u8; 12]
 {
     let [n0, n1, n2, n3, n4, n5, n6, n7] = last.to_be_bytes();
     let [kind, refusal, condition] = reply_codes(reply);
-    [
-        n0, n1, n2, n3, n4, n5, n6, n7, kind, refusal, condition, 0,
-    ]
+    [n0, n1, n2, n3, n4, n5, n6, n7, kind, refusal, condition, 0]
 }
 
 fn put_number(into: &mut [u8], place: usize, n: u64)

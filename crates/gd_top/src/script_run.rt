@@ -42,19 +42,49 @@ pub(crate) fn carry_lines<C: Core, S: Source, K: Sink, L: LabDisk, W: Draws>(
         match next_line(input, &mut ahead, &mut line) {
             Ok(LineEnd::Whole) => match carry_line(cabinet, output, text, line.as_slice()) {
                 Step::Goes => {}
-                Step::Stops => return LinesEnded { end: LinesEnd::Stopped, lines },
-                Step::DiskFault => return LinesEnded { end: LinesEnd::DiskFault, lines },
-                Step::WriteFault => return LinesEnded { end: LinesEnd::WriteFault, lines },
+                Step::Stops => return LinesEnded {
+                    end: LinesEnd::Stopped,
+                    lines,
+                },
+                Step::DiskFault => return LinesEnded {
+                    end: LinesEnd::DiskFault,
+                    lines,
+                },
+                Step::WriteFault => return LinesEnded {
+                    end: LinesEnd::WriteFault,
+                    lines,
+                },
             },
-            Ok(LineEnd::End) => return LinesEnded { end: LinesEnd::Read, lines },
-            Ok(LineEnd::CutShort) => return LinesEnded { end: LinesEnd::Stopped, lines },
-            Ok(LineEnd::TooLong) => return LinesEnded { end: LinesEnd::Stopped, lines },
-            Err(_) => return LinesEnded { end: LinesEnd::ReadFault, lines },
+            Ok(LineEnd::End) => return LinesEnded {
+                end: LinesEnd::Read,
+                lines,
+            },
+            Ok(LineEnd::CutShort) => return LinesEnded {
+                end: LinesEnd::Stopped,
+                lines,
+            },
+            Ok(LineEnd::TooLong) => return LinesEnded {
+                end: LinesEnd::Stopped,
+                lines,
+            },
+            Err(_) => return LinesEnded {
+                end: LinesEnd::ReadFault,
+                lines,
+            },
         }
     }
     match next_byte(input, &mut ahead) {
-        Ok(None) => LinesEnded { end: LinesEnd::Read, lines: MOST_LINES },
-        Ok(Some(_)) => LinesEnded { end: LinesEnd::Stopped, lines: MOST_LINES },
-        Err(_) => LinesEnded { end: LinesEnd::ReadFault, lines: MOST_LINES },
+        Ok(None) => LinesEnded {
+            end: LinesEnd::Read,
+            lines: MOST_LINES,
+        },
+        Ok(Some(_)) => LinesEnded {
+            end: LinesEnd::Stopped,
+            lines: MOST_LINES,
+        },
+        Err(_) => LinesEnded {
+            end: LinesEnd::ReadFault,
+            lines: MOST_LINES,
+        },
     }
 }

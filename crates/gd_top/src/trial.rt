@@ -66,7 +66,9 @@ fn open_memory<S: Source, K: Sink, L: LabDisk, W: Draws>(
     ensures causes { HasCauses result.status (S.faults input.old) (S.faults input.new) (K.faults output.old) (K.faults output.new) (L.state parts.disk).faults (L.state result.lab).faults }
 {
     match Cabinet::open(parts, 0) {
-        CabinetOpened::Ready { cabinet, found } => run_cabinet(cabinet, &found, input, output, text),
+        CabinetOpened::Ready { cabinet, found } => run_cabinet(
+            cabinet, &found, input, output, text,
+        ),
         CabinetOpened::Off { found, parts } => {
             end_broken(&found, parts.disk, parts.draws, output, text)
         }

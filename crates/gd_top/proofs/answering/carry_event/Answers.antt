@@ -1,7 +1,6 @@
-use Rattle.std.proofs.Common.{◌≡◌, ◌∙◌, ◌+◌, ap, sym, subst, refl, ℕ, List, [], arith, Option, Some}
+use Rattle.std.proofs.Common.{◌≡◌, ◌∙◌, ◌+◌, ap, sym, subst, refl, ℕ, [], arith, Option, Some}
 use Rattle.std.proofs.KnownBytes.{Appends-nil}
 use Rattle.gd_base.specs.Answer.{answer, is_new}
-use Rattle.gd_base.specs.declared.step.Numbered.{Numbered}
 use Rattle.gd_cabinet.specs.Answered.{offered, syncs_of}
 use Rattle.gd_cabinet.specs.Shown.{ShowsEither}
 use Rattle.gd_cabinet.specs.Words.{cabinet_core, cabinet_disk, cabinet_draws, cabinet_lap}
@@ -27,9 +26,9 @@ returns-in-Ok-clause-carried g c =
     let after : w ≡ offered M B 0 v e = c.in-Ok.ensures.view ∙ ap (λ (lap : ℕ). offered M B lap v e) c.requires.running.first_lap in
     let gives = subst (GivesText c.give_text.result _ _) (c.write_answer.ensures a (M.count w) c.in-Ok.ensures.answer) c.give_text.ensures.given in
     λ lines power_ons.
-        said c.give_text.result (event_told M B e) v w lines lines power_ons _ _ (answer_text e a (M.count w)) (moves_by M B v e a)
-        (λ x whole. event_is_told M B v e lines power_ons x whole ∙ ap (λ u. told (answer_text e a (M.count u)) (at u lines power_ons ((moves_by M B v e a).moved x))) (sym after))
-        gives
+    said c.give_text.result (event_told M B e) v w lines lines power_ons _ _ (answer_text e a (M.count w)) (moves_by M B v e a)
+    (λ x whole. event_is_told M B v e lines power_ons x whole ∙ ap (λ u. told (answer_text e a (M.count u)) (at u lines power_ons ((moves_by M B v e a).moved x))) (sym after))
+    gives
 
 pub returns-in-Err-clause-carried : goal.returns-in-Err-clause-carried
 returns-in-Err-clause-carried g c =
@@ -45,10 +44,11 @@ returns-in-Err-clause-carried g c =
       printed = Appends-nil _;
       made = 0;
       tells = λ x b.
-          let number : x.offers + 0 + 1 ≡ x.offers + 1 = omega arith in
-          (counted 6 (at v lines power_ons x),
-          event_breaks M B v e new.0 new.1 lines power_ons x (b ∙ ap (λ (n : ℕ). let o : Option ℕ = Some n in o) number),
-          sym c.in-Err.ensures.stays);
+          let number : x.offers + 0 + 1 ≡ x.offers + 1 = omega arith in (
+            counted 6 (at v lines power_ons x),
+            event_breaks M B v e new.0 new.1 lines power_ons x (b ∙ ap (λ (n : ℕ). let o : Option ℕ = Some n in o) number),
+            sym c.in-Err.ensures.stays,
+          );
     }
 
 pub returns-in-Err-clause-leaves : goal.returns-in-Err-clause-leaves

@@ -1,6 +1,5 @@
-use Rattle.std.proofs.Common.{◌≡◌, ◌≢◌, ◌∙◌, sym, List, ℕ, Option, Some, None}
+use Rattle.std.proofs.Common.{◌∙◌, sym, List, ℕ}
 use Rattle.gd_base.specs.declared.event.Event.{Event}
-use Rattle.gd_base.specs.declared.step.What.{What}
 use Rattle.gd_cabinet.specs.Words.{cabinet_core, cabinet_draws}
 use Rattle.gd_script.specs.declared.item.Item.{Item}
 use Rattle.gd_top.specs.Grammar.{Says}
@@ -27,12 +26,12 @@ pub returns-in-Some-clause-carried : goal.returns-in-Some-clause-carried
 returns-in-Some-clause-carried g c =
     let cabinet = c.args.cabinet.now in
     λ lines power_ons few.
-        item_line (g.C.Core.meaning (cabinet_core cabinet)) (g.W.Draws.block_of (cabinet_draws cabinet)) c.carry_item.result _ _ lines power_ons _ _ c.args.line.now c.in-Some.item
-        c.requires.short (sym c.read_item.ensures ∙ c.in-Some.is) few (c.carry_item.ensures.carried lines power_ons)
+    item_line (g.C.Core.meaning (cabinet_core cabinet)) (g.W.Draws.block_of (cabinet_draws cabinet)) c.carry_item.result _ _ lines power_ons _ _ c.args.line.now c.in-Some.item
+    c.requires.short (sym c.read_item.ensures ∙ c.in-Some.is) few (c.carry_item.ensures.carried lines power_ons)
 
 pub returns-in-None-clause-carried : goal.returns-in-None-clause-carried
 returns-in-None-clause-carried g c =
     let cabinet = c.args.cabinet.now in
     λ lines power_ons few.
-        stopped_line (g.C.Core.meaning (cabinet_core cabinet)) (g.W.Draws.block_of (cabinet_draws cabinet)) _ lines power_ons _ c.args.line.now
-        c.requires.short (sym c.read_item.ensures ∙ c.in-None.is)
+    stopped_line (g.C.Core.meaning (cabinet_core cabinet)) (g.W.Draws.block_of (cabinet_draws cabinet)) _ lines power_ons _ c.args.line.now
+    c.requires.short (sym c.read_item.ensures ∙ c.in-None.is)

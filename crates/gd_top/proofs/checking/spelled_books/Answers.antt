@@ -1,4 +1,4 @@
-use Rattle.std.proofs.Common.{◌≡◌, ◌∙◌, sym, Bool, true, false, refl}
+use Rattle.std.proofs.Common.{◌≡◌, ◌∙◌, sym, true, false, refl}
 use Rattle.gd_base.specs.Payload.{payload_of}
 use Rattle.gd_base.specs.Spelling.{is_possible}
 use Rattle.gd_base.specs.TheMachine.{same_numbers}

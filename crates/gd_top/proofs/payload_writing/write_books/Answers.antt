@@ -1,4 +1,4 @@
-use Rattle.std.proofs.Common.{◌≡◌, ◌∙◌, ◌++◌, ap, List, ℕ, drop}
+use Rattle.std.proofs.Common.{◌∙◌, ◌++◌, drop}
 use Rattle.gd_top.proofs.Head.{rest_written}
 use Rattle.gd_top.proofs.payload_writing.write_books.Goals as goal
 

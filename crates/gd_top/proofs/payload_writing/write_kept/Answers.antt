@@ -1,7 +1,7 @@
-use Rattle.std.proofs.Common.{◌≡◌, ◌∙◌, ap, sym, List, ℕ, ◌+◌, ◌*◌, ◌<◌, get_or, length, arith, None}
+use Rattle.std.proofs.Common.{◌∙◌, ap, sym, List, ℕ, ◌+◌, ◌*◌, ◌<◌, get_or, length, arith, None}
 use Rattle.gd_base.specs.Payload.{kept_bytes}
 use Rattle.gd_top.specs.Books.{put_at}
-use Rattle.gd_top.proofs.Head.{Kept, kept_more, put_none, all_kept}
+use Rattle.gd_top.proofs.Head.{Kept, kept_more, put_none}
 use Rattle.gd_top.proofs.payload_writing.write_kept.Goals as goal
 
 pub loop-i-init : goal.loop-i-init

@@ -1,4 +1,4 @@
-use Rattle.std.proofs.Common.{◌≡◌, ◌∙◌, ap, ℕ, slice_set, Some}
+use Rattle.std.proofs.Common.{◌∙◌, ap, ℕ, slice_set, Some}
 use Rattle.gd_top.proofs.OneEntry.{kept_set}
 use Rattle.gd_top.proofs.recording.keep.Goals as goal
 

@@ -1,4 +1,4 @@
-use Rattle.std.proofs.Common.{◌≡◌, ◌∙◌, ap, sym, ℕ, slice_index_or, None}
+use Rattle.std.proofs.Common.{◌∙◌, ap, sym, ℕ, slice_index_or, None}
 use Rattle.gd_base.specs.Entry.{device_place}
 use Rattle.gd_top.proofs.OneEntry.{Kept, kept_is}
 use Rattle.gd_top.proofs.recording.kept_of.Goals as goal

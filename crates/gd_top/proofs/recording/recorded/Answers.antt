@@ -1,4 +1,4 @@
-use Rattle.std.proofs.Common.{◌≡◌, ◌∙◌, ◌+◌, ap}
+use Rattle.std.proofs.Common.{◌∙◌, ◌+◌, ap}
 use Rattle.gd_base.specs.declared.event.Device.{Device}
 use Rattle.gd_base.specs.SoFar.{view_so_far, with_reply}
 use Rattle.gd_base.specs.Spelling.{is_possible}

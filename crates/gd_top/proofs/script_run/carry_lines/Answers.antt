@@ -56,8 +56,8 @@ returns-in-Stops-clause-done g c =
     let line = c.next_line.new.line.items in
     let t = takes_at old new line c.in-Ok-Whole.field-0 LineEnd.Whole c.in-Ok-Whole.field-0-is c.in-Ok-Whole.ensures.taken in
     λ p. lines_stopped _ _ _ _ _ _ _ p _ _ _ _ old new line c.next_line.ensures.no_end (k.carried p) t
-        (line_alike _ _ _ _ Step.Stops _ _ _ _ p _ _ line c.as_slice.result.now k.meaning (λ j n i. k.draws n i j) c.as_slice.ensures.value
-            (c.in-Stops.ensures.carried c.loop-lines.lines p (omega (arith, c.loop-lines-test.true))))
+    (line_alike _ _ _ _ Step.Stops _ _ _ _ p _ _ line c.as_slice.result.now k.meaning (λ j n i. k.draws n i j) c.as_slice.ensures.value
+    (c.in-Stops.ensures.carried c.loop-lines.lines p (omega (arith, c.loop-lines-test.true))))
 
 pub returns-in-DiskFault-clause-done : goal.returns-in-DiskFault-clause-done
 returns-in-DiskFault-clause-done g c =
@@ -67,8 +67,8 @@ returns-in-DiskFault-clause-done g c =
     let line = c.next_line.new.line.items in
     let t = takes_at old new line c.in-Ok-Whole.field-0 LineEnd.Whole c.in-Ok-Whole.field-0-is c.in-Ok-Whole.ensures.taken in
     λ p. lines_broken _ _ _ _ _ _ c.loop-lines.lines p _ _ _ _ old new line c.next_line.ensures.no_end (k.carried p) t
-        (line_alike _ _ _ _ Step.DiskFault _ _ _ c.loop-lines.lines p _ _ line c.as_slice.result.now k.meaning (λ j n i. k.draws n i j) c.as_slice.ensures.value
-            (c.in-DiskFault.ensures.carried c.loop-lines.lines p (omega (arith, c.loop-lines-test.true))))
+    (line_alike _ _ _ _ Step.DiskFault _ _ _ c.loop-lines.lines p _ _ line c.as_slice.result.now k.meaning (λ j n i. k.draws n i j) c.as_slice.ensures.value
+    (c.in-DiskFault.ensures.carried c.loop-lines.lines p (omega (arith, c.loop-lines-test.true))))
 
 pub returns-in-WriteFault-clause-done : goal.returns-in-WriteFault-clause-done
 returns-in-WriteFault-clause-done g c =
@@ -78,8 +78,8 @@ returns-in-WriteFault-clause-done g c =
     let line = c.next_line.new.line.items in
     let t = takes_at old new line c.in-Ok-Whole.field-0 LineEnd.Whole c.in-Ok-Whole.field-0-is c.in-Ok-Whole.ensures.taken in
     λ p. lines_unwritten _ _ _ _ _ _ c.loop-lines.lines p _ _ _ _ old new line c.next_line.ensures.no_end (k.carried p) t
-        (line_alike _ _ _ _ Step.WriteFault _ _ _ c.loop-lines.lines p _ _ line c.as_slice.result.now k.meaning (λ j n i. k.draws n i j) c.as_slice.ensures.value
-            (c.in-WriteFault.ensures.carried c.loop-lines.lines p (omega (arith, c.loop-lines-test.true))))
+    (line_alike _ _ _ _ Step.WriteFault _ _ _ c.loop-lines.lines p _ _ line c.as_slice.result.now k.meaning (λ j n i. k.draws n i j) c.as_slice.ensures.value
+    (c.in-WriteFault.ensures.carried c.loop-lines.lines p (omega (arith, c.loop-lines-test.true))))
 
 pub loop-lines-preserved : goal.loop-lines-preserved
 loop-lines-preserved g c =
@@ -95,7 +95,7 @@ loop-lines-preserved g c =
     record {
       carried = λ p. lines_on _ _ _ _ _ _ _ p _ _ _ _ old new line c.next_line.ensures.no_end (k.carried p) t
           (line_alike _ _ _ _ Step.Goes _ _ _ _ p _ _ line c.as_slice.result.now k.meaning (λ j n i. k.draws n i j) c.as_slice.ensures.value
-              (c.in-Goes.ensures.carried c.loop-lines.lines p (omega (arith, c.loop-lines-test.true))));
+          (c.in-Goes.ensures.carried c.loop-lines.lines p (omega (arith, c.loop-lines-test.true))));
       running = left.running (λ e. cc e);
       both = left.both (λ e. cc e);
       faults = left.faults (λ e. cc e);
@@ -113,8 +113,8 @@ returns-in-Ok-None-clause-done g c =
     let byte = c.in-Ok-None.field-0 in
     let all : c.loop-lines.lines ≡ MOST_LINES = omega (arith, c.loop-lines-test.false, c.loop-lines.auto.lines-end) in
     λ p. lines_read _ _ _ _ _ p _ _ _ old new [] (lines_many _ _ _ _ _ MOST_LINES p _ _ _ old all (c.loop-lines.invariant.carried p)) refl
-        (subst (λ (b : Option ℕ). Consumes old new (option_to_list b)) c.in-Ok-None.field-0-is c.in-Ok-None.ensures.byte)
-        (subst (λ (b : Option ℕ). IfNone b (IsAtEnd new)) c.in-Ok-None.field-0-is c.in-Ok-None.ensures.end)
+    (subst (λ (b : Option ℕ). Consumes old new (option_to_list b)) c.in-Ok-None.field-0-is c.in-Ok-None.ensures.byte)
+    (subst (λ (b : Option ℕ). IfNone b (IsAtEnd new)) c.in-Ok-None.field-0-is c.in-Ok-None.ensures.end)
 
 pub returns-in-Ok-Some-clause-done : goal.returns-in-Ok-Some-clause-done
 returns-in-Ok-Some-clause-done g c =
@@ -122,11 +122,11 @@ returns-in-Ok-Some-clause-done g c =
     let new = prepend_known c.next_byte.new.ahead (g.S.Source.left c.next_byte.new.source) in
     let all : c.loop-lines.lines ≡ MOST_LINES = omega (arith, c.loop-lines-test.false, c.loop-lines.auto.lines-end) in
     λ p. lines_past _ _ _ _ MOST_LINES p _ _ _ old new c.in-Ok-Some.field-0-0 refl (lines_many _ _ _ _ _ MOST_LINES p _ _ _ old all (c.loop-lines.invariant.carried p))
-        (subst (λ (b : Option ℕ). Consumes old new (option_to_list b)) c.in-Ok-Some.field-0-is c.in-Ok-Some.ensures.byte)
+    (subst (λ (b : Option ℕ). Consumes old new (option_to_list b)) c.in-Ok-Some.field-0-is c.in-Ok-Some.ensures.byte)
 
 pub returns-in-Err-next_byte-clause-done : goal.returns-in-Err-next_byte-clause-done
 returns-in-Err-next_byte-clause-done g c =
     let old = prepend_known c.loop-lines.ahead (g.S.Source.left c.loop-lines.input) in
     let all : c.loop-lines.lines ≡ MOST_LINES = omega (arith, c.loop-lines-test.false, c.loop-lines.auto.lines-end) in
     λ p. lines_unread _ _ _ _ _ p _ _ _ old (g.S.Source.left c.next_byte.new.source) c.next_byte.new.ahead [] (All-nil (λ (b : ℕ). b ≢ 10)) c.in-Err-next_byte.ensures.empty
-        (lines_many _ _ _ _ _ MOST_LINES p _ _ _ old all (c.loop-lines.invariant.carried p)) c.in-Err-next_byte.ensures.none
+    (lines_many _ _ _ _ _ MOST_LINES p _ _ _ old all (c.loop-lines.invariant.carried p)) c.in-Err-next_byte.ensures.none

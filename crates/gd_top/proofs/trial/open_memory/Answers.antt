@@ -1,7 +1,7 @@
-use Rattle.std.proofs.Common.{◌≡◌, ◌∙◌, sym, subst, ℕ, List, IfSome}
+use Rattle.std.proofs.Common.{◌∙◌, sym, subst, IfSome}
 use Rattle.gd_base.specs.SoFar.{machine_so_far, no_digest, spelled_so_far}
 use Rattle.gd_base.proofs.Same.{same-itself}
-use Rattle.gd_cabinet.specs.Words.{cabinet_core, cabinet_disk, cabinet_draws}
+use Rattle.gd_cabinet.specs.Words.{cabinet_core, cabinet_draws}
 use Rattle.gd_top.specs.Books.{view_of}
 use Rattle.gd_top.specs.Trial.{RunDone}
 use Rattle.gd_top.proofs.FirstOpening.{told_at, empty_shows, not_locked, started_is_first, off_done, run_alike, shown_alike, first_alike}
@@ -56,4 +56,4 @@ returns-in-Off-clause-done g c =
     let status = c.end_broken.result.status in
     subst (λ lab. IfSome left (λ script. RunDone M B status script left taken gave (g.L.Disk.state lab))) (sym c.end_broken.ensures.lab)
     (off_done M B disk disk h status c.in-Off.found left left taken gave (g.L.Disk.state c.in-Off.parts.disk) (same-itself parts.core.setup no_digest spelled_so_far M.empty)
-        (told_at disk.seen h.image _ h.seen c.in-Off.ensures.what) c.in-Off.ensures.found c.in-Off.ensures.any_moment c.end_broken.ensures.given)
+    (told_at disk.seen h.image _ h.seen c.in-Off.ensures.what) c.in-Off.ensures.found c.in-Off.ensures.any_moment c.end_broken.ensures.given)

@@ -1,4 +1,4 @@
-use Rattle.std.proofs.Common.{◌≡◌, ◌∙◌, ◌++◌, ap, sym, subst, ℕ, List}
+use Rattle.std.proofs.Common.{◌∙◌, ◌++◌, ap, sym, subst, ℕ, List}
 use Rattle.std.specs.Io.KnownBytes.{Appends}
 use Rattle.gd_base.specs.Causes.{AppendsFront}
 use Rattle.gd_base.specs.SoFar.{machine_so_far, no_digest, spelled_so_far}

@@ -1,9 +1,9 @@
-use Rattle.std.proofs.Common.{◌≡◌, ◌∙◌, ap, sym, subst, ℕ, List}
+use Rattle.std.proofs.Common.{◌∙◌, ap, sym, subst, ℕ, List}
 use Rattle.gd_base.specs.SoFar.{machine_so_far}
 use Rattle.gd_base.specs.declared.step.Numbered.{Numbered}
 use Rattle.gd_cabinet.specs.Answered.{offered}
 use Rattle.gd_cabinet.specs.Shown.{IsInBoth, ShowsEither}
-use Rattle.gd_cabinet.specs.Words.{cabinet_core, cabinet_disk, cabinet_draws}
+use Rattle.gd_cabinet.specs.Words.{cabinet_core, cabinet_draws}
 use Rattle.gd_top.specs.Books.{view_of}
 use Rattle.gd_top.specs.Trial.{GivesLast, last_text}
 use Rattle.gd_top.specs.declared.status.Status.{Status}

@@ -1,4 +1,4 @@
-use Rattle.std.proofs.Common.{◌≡◌, ◌≤◌, ◌^◌, ap, arith}
+use Rattle.std.proofs.Common.{◌≡◌, ap, arith}
 use Rattle.gd_base.specs.Devices.{kept_at}
 use Rattle.gd_base.specs.Entry.{device_place}
 use Rattle.gd_top.proofs.OneEntry.{Kept, kept_small, counted_books}

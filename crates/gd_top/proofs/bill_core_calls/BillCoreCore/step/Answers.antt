@@ -1,4 +1,4 @@
-use Rattle.std.proofs.Common.{◌≡◌, ◌∙◌, ap, sym}
+use Rattle.std.proofs.Common.{◌∙◌, ap, sym}
 use Rattle.gd_base.specs.declared.event.Reply.{Reply}
 use Rattle.gd_base.specs.Entry.{Entry}
 use Rattle.gd_base.specs.SoFar.{machine_so_far}

@@ -1,4 +1,4 @@
-use Rattle.std.proofs.Common.{◌≡◌, ◌∙◌, ap}
+use Rattle.std.proofs.Common.{◌∙◌, ap}
 use Rattle.gd_base.specs.SoFar.{spelled_so_far}
 use Rattle.gd_base.proofs.SoFar.{spelled_back}
 use Rattle.gd_top.proofs.bill_core_calls.BillCoreCore.write_image.Goals as goal
