@@ -61,6 +61,7 @@ fn refuse<K: Sink, L, D, W>(
     ensures lab { result.lab ≡ lab }
     ensures disk { result.disk ≡ disk }
     ensures draws { result.draws ≡ draws }
+    ensures falls { result.falls.items ≡ [] }
 {
     let status = match output.give(line.as_bytes()) {
         Ok(()) => status,
@@ -95,6 +96,7 @@ fn command<S: Source, K: Sink, L: LabDisk, D: Disk, W: Draws>(
     ensures disk_cause { result.status ≡ Status.DiskFault → Rose (L.state lab).faults (L.state result.lab).faults }
     ensures unopened { IsUnopened result.status → (result.lab ≡ lab) × (result.draws ≡ draws) }
     ensures disk { result.disk ≡ disk }
+    ensures falls { result.falls.items ≡ [] }
 {
     if !are_trial(words) {
         return refuse(Status::Usage, "usage\n", output, lab, disk, draws);
@@ -161,6 +163,8 @@ pub fn cabinet<S: Source, C: Source, K: Sink, L: LabDisk, D: Disk, W: Draws>(
     ensures built { IsBuilt result.status }
     ensures unopened { IsUnopened result.status → (result.lab ≡ lab) × (result.draws ≡ draws) }
     ensures disk { result.disk ≡ disk }
+    // No line arms a cut yet.
+    ensures falls { result.falls.items ≡ [] }
     ensures setup { setup.new ≡ setup.old }
 {
     let _setup = setup;

@@ -40,6 +40,7 @@ fn end_broken<K: Sink, L, W>(
 ) -> Carried<L, W>
     ensures given { GivesLast Status.DiskFault result.status (K.taken output.old) (K.taken output.new) (broken_text found.now) }
     ensures lab { result.lab ≡ lab }
+    ensures falls { result.falls.items ≡ [] }
     ensures of_trial { IsOfTrial result.status }
     ensures cause { (result.status ≡ Status.DiskFault) ⊎ ((result.status ≡ Status.WriteFault) × Rose (K.faults output.old) (K.faults output.new)) }
 {
@@ -62,6 +63,7 @@ fn open_memory<S: Source, K: Sink, L: LabDisk, W: Draws>(
     requires first { HasEmpty (machine_so_far parts.core.setup) (L.state parts.disk) (L.state parts.disk) }
     ensures done { IfSome (S.left input.old) (λ script. RunDone (machine_so_far parts.core.setup) (W.block_of parts.draws) result.status script
         (S.left input.new) (K.taken output.old) (K.taken output.new) (L.state result.lab)) }
+    ensures falls { result.falls.items ≡ [] }
     ensures of_trial { IsOfTrial result.status }
     ensures causes { HasCauses result.status (S.faults input.old) (S.faults input.new) (K.faults output.old) (K.faults output.new) (L.state parts.disk).faults (L.state result.lab).faults }
 {
@@ -93,6 +95,7 @@ pub(crate) fn carry<S: Source, K: Sink, L: LabDisk, W: Draws>(
     requires found { (L.state lab).found ≡ [] }
     ensures done { IfSome (S.left input.old) (λ script. RunDone (machine_so_far core.setup) (W.block_of draws) result.status script
         (S.left input.new) (K.taken output.old) (K.taken output.new) (L.state result.lab)) }
+    ensures falls { result.falls.items ≡ [] }
     ensures of_trial { IsOfTrial result.status }
     ensures causes { HasCauses result.status (S.faults input.old) (S.faults input.new) (K.faults output.old) (K.faults output.new) (L.state lab).faults (L.state result.lab).faults }
 {

@@ -1,6 +1,6 @@
 //! A trial from its first opening on.
 
-ghost use Rattle.std.specs.Prelude.{◌≡◌, ◌++◌, List, ℕ, IfSome, false};
+ghost use Rattle.std.specs.Prelude.{◌≡◌, ◌++◌, List, ℕ, IfSome, [], false};
 ghost use Rattle.gd_base.specs.SoFar.{machine_so_far};
 ghost use Rattle.gd_cabinet.specs.Shown.{IsInBoth};
 ghost use Rattle.gd_cabinet.specs.Words.{cabinet_core, cabinet_disk, cabinet_draws, cabinet_lap, cabinet_stopped};
@@ -46,6 +46,7 @@ fn write_opening(text: &mut Text, count: u64, found: &Found)
 fn ended<L: LabDisk, W: Draws>(cabinet: Cabinet<BillCore, L, W>, status: Status) -> Carried<L, W>
     ensures status { result.status ≡ status }
     ensures disk { result.lab ≡ cabinet_disk cabinet }
+    ensures falls { result.falls.items ≡ [] }
     ensures synced { cabinet_stopped cabinet ≡ false → IsSynced (L.state result.lab) }
 {
     let parts = cabinet.close();
@@ -69,6 +70,7 @@ fn run_lines<S: Source, K: Sink, L: LabDisk, W: Draws>(
     ensures ran { RanLines (machine_so_far (cabinet_core cabinet).setup) (W.block_of (cabinet_draws cabinet)) result.status (view_of (cabinet_core cabinet).books)
         (S.left input.old) (S.left input.new) (K.taken output.old) (K.taken output.new) (L.state result.lab) }
     ensures found { (L.state result.lab).found ≡ (L.state (cabinet_disk cabinet)).found }
+    ensures falls { result.falls.items ≡ [] }
     ensures of_trial { IsOfTrial result.status }
     ensures causes { HasCauses result.status (S.faults input.old) (S.faults input.new) (K.faults output.old) (K.faults output.new) (L.state (cabinet_disk cabinet)).faults (L.state result.lab).faults }
 {
@@ -92,6 +94,7 @@ pub(crate) fn run_cabinet<S: Source, K: Sink, L: LabDisk, W: Draws>(
     requires first { IsFirst (machine_so_far (cabinet_core cabinet).setup) (W.block_of (cabinet_draws cabinet)) found.now (view_of (cabinet_core cabinet).books) (L.state (cabinet_disk cabinet)) }
     ensures done { IfSome (S.left input.old) (λ script. RunDone (machine_so_far (cabinet_core cabinet).setup) (W.block_of (cabinet_draws cabinet)) result.status script
         (S.left input.new) (K.taken output.old) (K.taken output.new) (L.state result.lab)) }
+    ensures falls { result.falls.items ≡ [] }
     ensures of_trial { IsOfTrial result.status }
     ensures causes { HasCauses result.status (S.faults input.old) (S.faults input.new) (K.faults output.old) (K.faults output.new) (L.state (cabinet_disk cabinet)).faults (L.state result.lab).faults }
 {
