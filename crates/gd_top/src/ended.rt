@@ -10,8 +10,11 @@ pub type Falls = ArrayVec<u32, 256>;
 #[derive(Drop)]
 pub struct Ended<L, D, W> {
     pub status: Status,
+    /// None, until a line can arm a cut.
     pub falls: Falls,
+    /// The laboratory, as the run left it.
     pub lab: L,
+    /// The plain disk. A trial makes no call on it.
     pub disk: D,
     pub draws: W,
 }

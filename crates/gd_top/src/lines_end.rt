@@ -1,9 +1,11 @@
 //! How the lines of a script ended.
 
-/// How the lines ended: the input was read to its end, a line was a script fault, or something outside failed.
+/// How the lines ended, by the first of these that came.
 #[derive(Clone, Copy, Debug, PartialEq, Eq)]
 pub enum LinesEnd {
+    /// The input was read to its end.
     Read,
+    /// A line was a script fault.
     Stopped,
     ReadFault,
     DiskFault,
