@@ -1,6 +1,6 @@
 //! The lines of a report. docs/FORMATS.md has each; `specs/Lines` has them as bytes.
 
-ghost use Rattle.std.specs.Prelude.{◌≡◌, ◌≤◌, ◌+◌, ◌++◌, if◌then◌else◌, codes, decimal};
+ghost use Rattle.std.specs.Prelude.{◌≡◌, ◌≤◌, ◌+◌, ◌++◌, if◌then◌else◌, length, codes, decimal};
 ghost use Rattle.arrayvec.specs.ArrayString.{array_string_len};
 ghost use Rattle.gd_store.specs.Repair.{repaired};
 ghost use Rattle.gd_top.specs.Lines.{answer_line, copy_text, full_line, power_line, repair_text, start_line, step_line};
@@ -135,6 +135,17 @@ pub(crate) fn push_end_line(text: &mut Text, n: u64, credit: u64)
     text.push_str("\n");
 }
 
+/// Appends a line of a word and a number. `word` has the space behind it.
+pub(crate) fn push_count(text: &mut Text, word: &str, n: u64)
+    requires { array_string_len text.old + length word.now + 21 ≤ TEXT_LEN }
+    ensures bytes { text.new.bytes ≡ text.old.bytes ++ word.now ++ decimal n ++ codes "\n" }
+    ensures room { array_string_len text.new ≤ array_string_len text.old + length word.now + 21 }
+{
+    text.push_str(word);
+    push_number(text, n);
+    text.push_str("\n");
+}
+
 /// Appends the last line of a run that a line of its script ended, `n` being that line's place, counted from 1. At most 26
 /// bytes.
 pub(crate) fn push_fault_line(text: &mut Text, n: u64)
@@ -142,7 +153,5 @@ pub(crate) fn push_fault_line(text: &mut Text, n: u64)
     ensures bytes { text.new.bytes ≡ text.old.bytes ++ (codes "line " ++ decimal n ++ codes "\n") }
     ensures room { array_string_len text.new ≤ array_string_len text.old + 26 }
 {
-    text.push_str("line ");
-    push_number(text, n);
-    text.push_str("\n");
+    push_count(text, "line ", n);
 }

@@ -7,18 +7,8 @@ ghost use Rattle.gd_base.specs.declared.setup.Setup.{Setup as SetupData};
 ghost use Rattle.gd_top.specs.Books.{view_of};
 
 use crate::books::Books;
+use crate::report::push_count;
 use gd_base::{TEXT_LEN, Text, What, push_meters, push_number};
-
-/// Pushes a line of a word and a number.
-fn push_count(into: &mut Text, word: &str, n: u64)
-    requires { array_string_len into.old + length word.now + 21 ≤ TEXT_LEN }
-    ensures bytes { into.new.bytes ≡ into.old.bytes ++ word.now ++ decimal n ++ codes "\n" }
-    ensures room { array_string_len into.new ≤ array_string_len into.old + length word.now + 21 }
-{
-    into.push_str(word);
-    push_number(into, n);
-    into.push_str("\n");
-}
 
 /// Writes a text of the books over what stands in `into`. Nothing is recalled yet, and no condition, order, handpay or
 /// play can stand.
