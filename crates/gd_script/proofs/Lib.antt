@@ -1,0 +1,11 @@
+pub mod Numbers
+pub mod Cuts
+pub mod Found
+pub mod HoldBits
+pub mod Firsts
+pub mod NameTables
+pub mod OneField
+pub mod EventLines
+pub mod ItemLines
+pub mod TextOfWords
+pub mod WholeLines

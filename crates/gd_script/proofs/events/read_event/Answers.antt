@@ -1,0 +1,8 @@
+use Rattle.std.proofs.Common.{◌∙◌, ap, option_copied, sym}
+use Rattle.gd_script.proofs.Firsts.{event_behind}
+use Rattle.gd_script.proofs.events.read_event.Goals as goal
+
+pub returns-in-Some : goal.returns-in-Some
+returns-in-Some c =
+    c.event_with.ensures
+    ∙ event_behind c.in_ok-keyword.keyword c.args.text.now c.cut.result.0.now c.in-Some.fields.now (option_copied c.cut.result.1) c.cut.ensures (ap option_copied c.in-Some.is) (sym c.read_keyword.ensures ∙ c.in_ok-keyword.was)

@@ -1,0 +1,10 @@
+use Rattle.std.proofs.Common.{◌≡◌, ◌<◌, ℕ, get_or, take}
+use Rattle.std.specs.Int.{IsInRange}
+use Rattle.std.specs.Str.Parse.{digits_value}
+use Rattle.gd_script.proofs.fields.read_digits.Given as goal
+
+abbrev pub invariant-loop-digit : goal.invariant-loop-digit
+invariant-loop-digit l = record {
+  digits : (k : ℕ) → k < l.digit-index → IsInRange 48 57 (get_or l.digits k 0);
+  value : l.value ≡ digits_value 10 (take l.digit-index l.digits);
+}
