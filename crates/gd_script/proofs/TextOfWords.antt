@@ -1,8 +1,8 @@
 -- Words put into a line, and found there again.
-use Rattle.std.proofs.Common.{◌≡◌, ℕ, ◌*◌, ◌<◌, ◌≤◌, ◌==◌, nat_le, Bool, true, false, ◌&&◌, not, if◌then◌else◌, List, [], ◌∷◌, All, codes, decimal, get_or, length, Option, None, Some, refl, ap, ◌∙◌, arith, length-append}
+use Rattle.std.proofs.Common.{◌≡◌, ℕ, ◌*◌, ◌<◌, ◌≤◌, ◌==◌, nat_le, Bool, true, false, ◌&&◌, if◌then◌else◌, List, [], ◌∷◌, All, codes, decimal, get_or, length, Option, None, Some, refl, ap, ◌∙◌, arith, length-append}
 use Rattle.std.proofs.lemmas.Bool.Decides.{nat_tests}
 use Rattle.std.proofs.lemmas.Fmt.{length-decimal-le}
-use Rattle.std.proofs.lemmas.List.Elements.{All-from_get_or, All-get_or}
+use Rattle.std.proofs.lemmas.List.Elements.{All-append, All-cons, All-from_get_or, All-get_or}
 use Rattle.std.proofs.lemmas.List.Splits.{slice_split_none, slice_split_at}
 use Rattle.std.proofs.lemmas.List.Sums.{AllPass-from_list_all}
 use Rattle.std.specs.Int.{IsInRange}
@@ -22,7 +22,7 @@ use Rattle.gd_script.specs.declared.item.Item.{Item}
 use Rattle.gd_script.specs.declared.item.OrderWord.{OrderWord}
 use Rattle.gd_script.specs.declared.item.Side.{Side}
 use Rattle.gd_script.specs.declared.limits.TheConstants.{MOST_NUMBER}
-use Rattle.gd_script.specs.Grammar.{event_words, InGrammar, IsLineEvent, IsOrderNumber, item_words, order_number, show_words}
+use Rattle.gd_script.specs.Grammar.{event_words, InGrammar, IsLineEvent, IsOrderNumber, IsPrintable, item_words, order_number, show_words}
 use Rattle.gd_script.specs.Names.{door_name, order_name, side_name, tilt_name, unit_name, what_name}
 use Rattle.gd_script.specs.Reading.{words}
 use Rattle.gd_script.proofs.NameTables.{Each}
@@ -31,31 +31,34 @@ use Rattle.gd_script.proofs.Numbers.{both, decimal_digit_at, from_at_most}
 -- ================ a word
 
 is_word_byte : ℕ → Bool
-is_word_byte b = not (b == 32)
+is_word_byte b = nat_le 33 b && nat_le b 126
 
--- no space is in it, and it is at most 20 bytes long
+abbrev pub IsWordByte : ℕ → Type 0
+IsWordByte b = (33 ≤ b) × (b ≤ 126)
+
+-- printable bytes without a space, at most 20 of them
 abbrev pub IsWord : List ℕ → Type 0
-IsWord word = All (λ b. (b == 32) ≡ false) word × (length word ≤ 20)
+IsWord word = All IsWordByte word × (length word ≤ 20)
 
-no_space_byte : (b : ℕ) → is_word_byte b ≡ true → (b == 32) ≡ false
+word_byte : (b : ℕ) → is_word_byte b ≡ true → IsWordByte b
 unfolding is_word_byte
-no_space_byte b e = grind (arith, nat_tests)
+word_byte b e = let t = both (nat_le 33 b) (nat_le b 126) e in (from_at_most 33 b t.0, from_at_most b 126 t.1)
 
-free : (word : List ℕ) → list_all is_word_byte word ≡ true → All (λ b. (b == 32) ≡ false) word
-free word e =
+of_word_bytes : (word : List ℕ) → list_all is_word_byte word ≡ true → All IsWordByte word
+of_word_bytes word e =
     let pass = AllPass-from_list_all is_word_byte word e in
-    All-from_get_or (λ b. (b == 32) ≡ false) word 0 (λ i lt. no_space_byte (get_or word i 0) (All-get_or (λ b. is_word_byte b ≡ true) word i 0 lt pass))
+    All-from_get_or IsWordByte word 0 (λ i lt. word_byte (get_or word i 0) (All-get_or (λ b. is_word_byte b ≡ true) word i 0 lt pass))
 
 -- a text whose bytes are known
 known : (word : List ℕ) → (list_all is_word_byte word && nat_le (length word) 20) ≡ true → IsWord word
-known word e = let t = both (list_all is_word_byte word) (nat_le (length word) 20) e in (free word t.0, from_at_most (length word) 20 t.1)
+known word e = let t = both (list_all is_word_byte word) (nat_le (length word) 20) e in (of_word_bytes word t.0, from_at_most (length word) 20 t.1)
 
-digit_no_space : (b : ℕ) → IsInRange 48 57 b → (b == 32) ≡ false
-digit_no_space b h = grind (arith, nat_tests)
+number_byte : (b : ℕ) → IsInRange 48 57 b → IsWordByte b
+number_byte b h = (omega (arith, h), omega (arith, h))
 
 number_word : (n : ℕ) → n ≤ MOST_NUMBER → IsWord (decimal n)
 number_word n h =
-    (All-from_get_or (λ b. (b == 32) ≡ false) (decimal n) 0 (λ i lt. digit_no_space _ (decimal_digit_at n (omega arith) i lt)), length-decimal-le 20 n (omega arith) (omega arith) (omega arith))
+    (All-from_get_or IsWordByte (decimal n) 0 (λ i lt. number_byte (get_or (decimal n) i 0) (decimal_digit_at n (omega arith) i lt)), length-decimal-le 20 n (omega arith) (omega arith) (omega arith))
 
 digit_byte : (b : Bool) → is_word_byte (if b then 49 else 48) ≡ true
 unfolding is_word_byte
@@ -67,7 +70,7 @@ five_digits : (a b c d e : Bool)
 five_digits a b c d e = rw (digit_byte a, digit_byte b, digit_byte c, digit_byte d, digit_byte e) refl
 
 bits_word : (mask : ℕ) → IsWord (bits mask 0 5)
-bits_word mask = (free (bits mask 0 5) (five_digits (has_bit mask 0) (has_bit mask 1) (has_bit mask 2) (has_bit mask 3) (has_bit mask 4)), omega arith)
+bits_word mask = (of_word_bytes (bits mask 0 5) (five_digits (has_bit mask 0) (has_bit mask 1) (has_bit mask 2) (has_bit mask 3) (has_bit mask 4)), omega arith)
 
 -- ================ names
 
@@ -177,9 +180,15 @@ item_has_words item h = (omega arith, omega arith)
 
 -- ================ the line and its words
 
+no_space_byte : (b : ℕ) → IsWordByte b → (b == 32) ≡ false
+no_space_byte b h = grind (arith, nat_tests)
+
+no_space : (word : List ℕ) → All IsWordByte word → All (λ b. (b == 32) ≡ false) word
+no_space word h = All-from_get_or (λ b. (b == 32) ≡ false) word 0 (λ i lt. no_space_byte (get_or word i 0) (All-get_or IsWordByte word i 0 lt h))
+
 join_split : (word : List ℕ) (rest : List (List ℕ)) → Each IsWord (word ∷ rest) → words (join_with_byte 32 (word ∷ rest)) ≡ word ∷ rest
-join_split word [] h = slice_split_none (λ b. b == 32) word h.0.0
-join_split word (next ∷ rest) h = slice_split_at (λ b. b == 32) word 32 (join_with_byte 32 (next ∷ rest)) h.0.0 refl ∙ ap (λ ws. word ∷ ws) (join_split next rest h.1)
+join_split word [] h = slice_split_none (λ b. b == 32) word (no_space word h.0.0)
+join_split word (next ∷ rest) h = slice_split_at (λ b. b == 32) word 32 (join_with_byte 32 (next ∷ rest)) (no_space word h.0.0) refl ∙ ap (λ ws. word ∷ ws) (join_split next rest h.1)
 
 pub words_found : (ws : List (List ℕ)) → 0 < length ws → Each IsWord ws → words (join_with_byte 32 ws) ≡ ws
 words_found [] n h = absurd (omega arith)
@@ -190,3 +199,13 @@ line_short [] h = omega arith
 line_short (word ∷ []) h = omega (arith, h.0.1)
 line_short (word ∷ next ∷ rest) h =
     let more = line_short (next ∷ rest) h.1 in omega (arith, h.0.1, more, length-append word (32 ∷ join_with_byte 32 (next ∷ rest)))
+
+printable_word : (word : List ℕ) → All IsWordByte word → All IsPrintable word
+printable_word word h = All-from_get_or IsPrintable word 0 (λ i lt. let b = All-get_or IsWordByte word i 0 lt h in (omega (arith, b), omega (arith, b)))
+
+pub line_printable : (ws : List (List ℕ)) → Each IsWord ws → All IsPrintable (join_with_byte 32 ws)
+line_printable [] h = All-from_get_or IsPrintable [] 0 (λ i lt. absurd (omega arith))
+line_printable (word ∷ []) h = printable_word word h.0.0
+line_printable (word ∷ next ∷ rest) h =
+    All-append IsPrintable word (32 ∷ join_with_byte 32 (next ∷ rest)) (printable_word word h.0.0)
+    (All-cons IsPrintable 32 (join_with_byte 32 (next ∷ rest)) (omega arith, omega arith) (line_printable (next ∷ rest) h.1))

@@ -1,7 +1,7 @@
 -- The grammar: a line is read as an item exactly where it says that item.
-use Rattle.std.proofs.Common.{◌≡◌, ◌≢◌, ◌↔◌, ℕ, ◌<◌, ◌≤◌, ◌==◌, nat_le, Bool, true, false, if◌then◌else◌, List, [], ◌∷◌, get_or, length, Option, None, Some, Ok, Err, Result, ok_or, refl, sym, ap, subst, ◌∙◌, arith}
+use Rattle.std.proofs.Common.{◌≡◌, ◌≢◌, ◌↔◌, ℕ, ◌<◌, ◌≤◌, ◌==◌, nat_le, Bool, true, false, if◌then◌else◌, List, [], ◌∷◌, All, get_or, length, Option, None, Some, IfOk, Ok, Err, Result, ok_or, refl, sym, ap, subst, ◌∙◌, arith}
 use Rattle.std.proofs.lemmas.Bool.Decides.{nat_tests}
-use Rattle.std.proofs.lemmas.List.Elements.{All-from_get_or, All-get_or}
+use Rattle.std.proofs.lemmas.List.Elements.{All-cons, All-from_get_or, All-get_or}
 use Rattle.std.proofs.lemmas.List.Splits.{join_with_byte-slice_split}
 use Rattle.std.proofs.lemmas.List.Sums.{AllPass-from_list_all, list_all-from_AllPass}
 use Rattle.std.specs.List.{join_with_byte, list_all}
@@ -16,7 +16,7 @@ use Rattle.gd_script.specs.Grammar.{event_words, InGrammar, IsComment, IsLineEve
 use Rattle.gd_script.specs.Reading.{is_comment, is_printable, item_of, item_of_words, read_of, words}
 use Rattle.gd_script.proofs.ItemLines.{item_read, item_said, SaysItem}
 use Rattle.gd_script.proofs.Numbers.{at_most, both, both_true, false_from, from_at_most}
-use Rattle.gd_script.proofs.TextOfWords.{item_has_words, item_of_its_words, line_short, words_found}
+use Rattle.gd_script.proofs.TextOfWords.{item_has_words, item_of_its_words, line_printable, line_short, words_found}
 
 -- ================ comments
 
@@ -100,6 +100,18 @@ pub line_read : (line : List ℕ) (item : Item) → Says line item → item_of l
 line_read line Item.Skip h = comment_line line h
 line_read line item h = ap item_of h.0 ∙ text_read item (refl, h.1)
 
+says_in_grammar : (line : List ℕ) (item : Item) → Says line item → InGrammar item
+says_in_grammar line Item.Skip h = tt
+says_in_grammar line item h = h.1
+
+comment_printable : (line : List ℕ) → IsComment line → All IsPrintable line
+comment_printable [] h = All-from_get_or IsPrintable [] 0 (λ i lt. absurd (omega arith))
+comment_printable (b ∷ bytes) h = All-cons IsPrintable b bytes (omega (arith, h.0), omega (arith, h.0)) h.1
+
+pub line_is_printable : (line : List ℕ) (item : Item) → Says line item → All IsPrintable line
+line_is_printable line Item.Skip h = comment_printable line h
+line_is_printable line item h = subst (All IsPrintable) (sym h.0) (line_printable (item_words item) (item_of_its_words item h.1))
+
 -- ================ printed
 
 pub text_says : (item : Item) → InGrammar item → Says (line_text item) item
@@ -171,3 +183,11 @@ said_not_a_line line h = whole line h.0 ∙ ap (λ (o : Option Item). ok_or o Li
 -- and no item exactly where it isn't too long and says none
 pub not_a_line_exactly : (line : List ℕ) (r : Result Item LineFault) → r ≡ read_of line → (r ≡ Err LineFault.NotALine) ↔ ((length line ≤ LINE_LEN) × ((i : Item) → ¬ Says line i))
 not_a_line_exactly line r is = (λ e. not_a_line_said line (sym is ∙ e), λ h. is ∙ said_not_a_line line h)
+
+if_ok : (r : Result Item LineFault) → ((item : Item) → r ≡ Ok item → InGrammar item) → IfOk r InGrammar
+if_ok (Ok item) f = f item refl
+if_ok (Err e) f = tt
+
+-- what was read can be printed
+pub ok_in_grammar : (line : List ℕ) (r : Result Item LineFault) → r ≡ read_of line → IfOk r InGrammar
+ok_in_grammar line r is = if_ok r (λ item e. says_in_grammar line item (ok_said line item (sym is ∙ e)).1)

@@ -2,4 +2,4 @@
 
 mod grammar;
 
-pub use grammar::{one_item, reads_back, reads_the_grammar};
+pub use grammar::{one_item, printable_lines, reads_back, reads_the_grammar};

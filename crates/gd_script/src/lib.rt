@@ -13,6 +13,8 @@ mod names;
 mod printing;
 mod reading;
 mod tables;
+#[cfg(test)]
+mod tests;
 mod words;
 
 pub use item::{Item, LineFault, OrderWord, Side};

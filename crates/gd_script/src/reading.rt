@@ -1,8 +1,8 @@
 //! Lines of a script read as items.
 
-ghost use Rattle.std.specs.Prelude.{◌≡◌, ◌≤◌, ◌<◌, ◌↔◌, ℕ, length, Ok, Err};
+ghost use Rattle.std.specs.Prelude.{◌≡◌, ◌≤◌, ◌<◌, ◌↔◌, length, IfOk, Ok, Err};
 ghost use Rattle.std.specs.List.{list_all};
-ghost use Rattle.gd_script.specs.Grammar.{Says};
+ghost use Rattle.gd_script.specs.Grammar.{InGrammar, Says};
 ghost use Rattle.gd_script.specs.Reading.{is_comment, is_printable, item_of, read_of};
 ghost use Rattle.gd_script.specs.declared.item.Item.{Item};
 ghost use Rattle.gd_script.specs.declared.item.LineFault.{LineFault};
@@ -20,6 +20,8 @@ pub fn read_line(line: &[u8]) -> Result<Item, LineFault>
     ensures item { (i : Item) → (result ≡ Ok i) ↔ ((length line.now ≤ LINE_LEN) × Says line.now i) }
     ensures too_long { (result ≡ Err LineFault.TooLong) ↔ (LINE_LEN < length line.now) }
     ensures not_a_line { (result ≡ Err LineFault.NotALine) ↔ ((length line.now ≤ LINE_LEN) × ((i : Item) → ¬ Says line.now i)) }
+    // What was read can be printed.
+    ensures grammar { IfOk result InGrammar }
 {
     if line.len() > LINE_LEN {
         return Err(LineFault::TooLong);
