@@ -3,7 +3,8 @@
 ghost use Rattle.std.specs.Prelude.{◌≡◌, option_map, option_and_then};
 ghost use Rattle.gd_base.specs.Names.{game_name};
 ghost use Rattle.gd_script.specs.Names.{door_name, tilt_name};
-ghost use Rattle.gd_script.specs.Reading.{bare_event, event_of, event_with, named, only, pair, play_of, voucher_of, words};
+ghost use Rattle.gd_script.specs.Reading.{amount_of, bare_event, event_of, event_with, named, number_in, number_of};
+ghost use Rattle.gd_script.specs.Reading.{only, pair, play_of, voucher_of, words};
 
 use crate::fields::{read_amount, read_byte, read_hold, read_keyword, read_number};
 use crate::keyword::Keyword;
@@ -11,7 +12,7 @@ use crate::limits::{MOST_BET, MOST_NUMBER, MOST_PICK};
 use crate::named::find_named;
 use crate::tables::{DOORS, GAMES, TILTS};
 use crate::words::{cut, only, pair};
-use gd_base::{Colour, Event};
+use gd_base::{Colour, Door, Event, Tilt};
 
 /// The event that a text says, as it stands alone and behind `as N `, or none. An order has its number there.
 #[tactic(auto, unfolding(crate::specs::Reading::event_of))]
@@ -55,43 +56,57 @@ pub(crate) fn event_with(keyword: Keyword, fields: &[u8]) -> Option<Event>
     ensures { result ≡ event_with keyword (words fields.now) }
 {
     match keyword {
-        Keyword::Bill => Some(Event::Bill {
-            value: read_amount(only(fields)?)?,
-        }),
-        Keyword::Coin => Some(Event::Coin {
-            value: read_amount(only(fields)?)?,
-        }),
+        Keyword::Bill => only_amount(fields).map(|value| Event::Bill { value }),
+        Keyword::Coin => only_amount(fields).map(|value| Event::Coin { value }),
         Keyword::Voucher => read_voucher(fields),
-        Keyword::Printed => Some(Event::Printed {
-            order: read_number(only(fields)?, 0, MOST_NUMBER)?,
-        }),
-        Keyword::PrintFail => Some(Event::PrintFail {
-            order: read_number(only(fields)?, 0, MOST_NUMBER)?,
-        }),
-        Keyword::CoinPaid => Some(Event::CoinPaid {
-            order: read_number(only(fields)?, 0, MOST_NUMBER)?,
-        }),
-        Keyword::HopperEmpty => Some(Event::HopperEmpty {
-            order: read_number(only(fields)?, 0, MOST_NUMBER)?,
-        }),
-        Keyword::Open => Some(Event::DoorOpen {
-            door: find_named(&DOORS, only(fields)?)?,
-        }),
-        Keyword::Shut => Some(Event::DoorShut {
-            door: find_named(&DOORS, only(fields)?)?,
-        }),
+        Keyword::Printed => only_number(fields).map(|order| Event::Printed { order }),
+        Keyword::PrintFail => only_number(fields).map(|order| Event::PrintFail { order }),
+        Keyword::CoinPaid => only_number(fields).map(|order| Event::CoinPaid { order }),
+        Keyword::HopperEmpty => only_number(fields).map(|order| Event::HopperEmpty { order }),
+        Keyword::Open => only_door(fields).map(|door| Event::DoorOpen { door }),
+        Keyword::Shut => only_door(fields).map(|door| Event::DoorShut { door }),
         Keyword::Play => read_play(fields),
-        Keyword::Pick => Some(Event::Pick {
-            door: read_byte(only(fields)?, 1, MOST_PICK)?,
-        }),
-        Keyword::Hold => Some(Event::Hold {
-            mask: read_hold(only(fields)?)?,
-        }),
-        Keyword::ClearTilt => Some(Event::ClearTilt {
-            tilt: find_named(&TILTS, only(fields)?)?,
-        }),
+        Keyword::Pick => read_pick(fields),
+        Keyword::Hold => read_hold(only(fields)?).map(|mask| Event::Hold { mask }),
+        Keyword::ClearTilt => only_tilt(fields).map(|tilt| Event::ClearTilt { tilt }),
         _ => None,
     }
+}
+
+/// The amount that the only field is, or none.
+fn only_amount(fields: &[u8]) -> Option<u32>
+    ensures { result ≡ option_and_then amount_of (only (words fields.now)) }
+{
+    read_amount(only(fields)?)
+}
+
+/// The number that the only field is, or none.
+fn only_number(fields: &[u8]) -> Option<u64>
+    ensures { result ≡ option_and_then number_of (only (words fields.now)) }
+{
+    read_number(only(fields)?, 0, MOST_NUMBER)
+}
+
+/// The door that the only field names, or none.
+fn only_door(fields: &[u8]) -> Option<Door>
+    ensures { result ≡ option_and_then (named door_name DOORS) (only (words fields.now)) }
+{
+    find_named(&DOORS, only(fields)?)
+}
+
+/// The tilt that the only field names, or none.
+fn only_tilt(fields: &[u8]) -> Option<Tilt>
+    ensures { result ≡ option_and_then (named tilt_name TILTS) (only (words fields.now)) }
+{
+    find_named(&TILTS, only(fields)?)
+}
+
+/// The choice of this door.
+fn read_pick(fields: &[u8]) -> Option<Event>
+    ensures { result ≡ option_map Event.Pick (option_and_then (number_in 1 MOST_PICK) (only (words fields.now))) }
+{
+    let door = read_byte(only(fields)?, 1, MOST_PICK)?;
+    Some(Event::Pick { door })
 }
 
 /// A voucher of this id and amount.
