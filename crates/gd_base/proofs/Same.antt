@@ -1,6 +1,6 @@
 -- The test on two views is true exactly where they are one, of views that keep the rules of a view.
-use Rattle.std.specs.Prelude.{◌≡◌, ℕ, ◌==◌, Bool, true, ◌&&◌, List, [], ◌∷◌, refl}
-use Rattle.std.proofs.Common.{ap, ◌∙◌, arith}
+use Rattle.std.specs.Prelude.{◌≡◌, ℕ, ◌==◌, Bool, true, List, [], ◌∷◌, refl}
+use Rattle.std.proofs.Common.{arith}
 use Rattle.std.proofs.lemmas.Bool.Decides.{nat_tests}
 use Rattle.gd_base.specs.declared.setup.Setup.{Setup}
 use Rattle.gd_base.specs.Payload.{payload_of}
@@ -20,16 +20,6 @@ numbers_one (x ∷ xs) (y ∷ ys) h =
     let one : x ≡ y = grind (arith, nat_tests, t.0) in
     let more = numbers_one xs ys t.1 in
     λ i. one i ∷ more i
-
-pub numbers_same : (xs : List ℕ) → same_numbers xs xs ≡ true
-numbers_same [] = refl
-numbers_same (x ∷ xs) =
-    let one : (x == x) ≡ true = grind (arith, nat_tests) in
-    ap (λ (b : Bool). b && same_numbers xs xs) one ∙ numbers_same xs
-
--- the machine's test finds a view the same as itself
-pub same-itself : (setup : Setup) (digest : List ℕ) (spelled : List ℕ → Spelled View) (v : View) → (machine setup digest spelled).same v v ≡ true
-same-itself setup digest spelled v = numbers_same (payload_of v)
 
 pub same-one : (setup : Setup) (digest : List ℕ) (spelled : List ℕ → Spelled View) (v w : View) → is_possible v ≡ true → is_possible w ≡ true → (machine setup digest spelled).same v w ≡ true → v ≡ w
 same-one setup digest spelled v w p q h = one_view v w p q (numbers_one (payload_of v) (payload_of w) h)

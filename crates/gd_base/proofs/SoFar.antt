@@ -7,12 +7,11 @@ use Rattle.gd_base.specs.Reading.{number_at, reply_of, kept_read}
 use Rattle.gd_base.specs.SoFar.{view_so_far, view_at, all_kept, spelled_so_far}
 use Rattle.gd_base.specs.Spelled.{Shows, Unreadable}
 use Rattle.gd_base.specs.Spelling.{is_possible}
-use Rattle.gd_base.specs.TheMachine.{same_numbers}
+use Rattle.gd_base.specs.TheMachine.{same_numbers, numbers_themselves}
 use Rattle.gd_base.specs.View.{View}
 use Rattle.gd_base.specs.ViewCode.{reply_back}
 use Rattle.gd_base.proofs.Fields.{Each}
 use Rattle.gd_base.proofs.OneView.{widths}
-use Rattle.gd_base.proofs.Same.{numbers_same}
 
 abbrev Kept : Type 0
 Kept = ℕ × Option Reply
@@ -116,4 +115,4 @@ spelled_back count balance bill_in power_ups kept possible =
     let w = widths v possible in
     let p = payload_of v in
     let back : view_at p ≡ v = view_back count balance bill_in power_ups kept w.kept_len w.count w.balance w.totals.0 w.totals.1.1.1.1.1.1.1.1.1.1.1.0 w.kept in
-    spelled_by true true p v back (numbers_same p) possible
+    spelled_by true true p v back (numbers_themselves p) possible

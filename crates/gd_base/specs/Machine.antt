@@ -1,5 +1,5 @@
 -- A machine as a run, a cabinet and a session see it: by its view alone. A toy can stand in its place.
-use Rattle.std.specs.Prelude.{◌≡◌, ℕ, ◌+◌, Bool, List}
+use Rattle.std.specs.Prelude.{◌≡◌, ℕ, ◌+◌, Bool, true, List}
 use Rattle.gd_base.specs.declared.event.Device.{Device}
 use Rattle.gd_base.specs.declared.event.Event.{Event}
 use Rattle.gd_base.specs.declared.event.Reply.{Reply}
@@ -26,6 +26,7 @@ pub record Machine (V : Type 0) : Type 0 where
   pub text : What → V → List ℕ
   pub credit : V → ℕ
   pub spelled : List ℕ → Spelled V  -- what a payload spells
-  -- these hold of each machine: a history begins with no entry, and each entry is one more
+  -- these hold of each machine: a history begins with no entry, each entry is one more, and a view is the same as itself
   pub count_empty : count empty ≡ 0
   pub count_effect : (v : V) (e : Entry) → count (effect v e) ≡ count v + 1
+  pub same_itself : (v : V) → same v v ≡ true

@@ -1,5 +1,6 @@
 -- The machine of the product, as a core, a cabinet and a run see it.
-use Rattle.std.specs.Prelude.{ℕ, Bool, true, false, ◌&&◌, ◌==◌, List, [], ◌∷◌, unwrap_or, Option, Some, None, refl}
+use Rattle.std.specs.Prelude.{◌≡◌, ℕ, Bool, true, false, ◌&&◌, ◌==◌, List, [], ◌∷◌, unwrap_or, Option, Some, None, refl}
+use Rattle.std.proofs.lemmas.Bool.{eq-eqb}
 use Rattle.gd_base.specs.declared.event.Reply.{Reply}
 use Rattle.gd_base.specs.declared.play.Order.{Order}
 use Rattle.gd_base.specs.declared.setup.Setup.{Setup}
@@ -32,6 +33,18 @@ same_numbers [] (y ∷ ys) = false
 same_numbers (x ∷ xs) [] = false
 same_numbers (x ∷ xs) (y ∷ ys) = (x == y) && same_numbers xs ys
 
+-- a number, and so a list of them, is the same as itself
+pub number_itself : (n : ℕ) → (n == n) ≡ true
+number_itself n = eq-eqb n n refl
+
+pub both_hold : (a b : Bool) → a ≡ true → b ≡ true → (a && b) ≡ true
+both_hold true b p q = q
+both_hold false b p q = p
+
+pub numbers_themselves : (xs : List ℕ) → same_numbers xs xs ≡ true
+numbers_themselves [] = refl
+numbers_themselves (x ∷ xs) = both_hold (x == x) (same_numbers xs xs) (number_itself x) (numbers_themselves xs)
+
 -- Under a setup whose digest is this, and payloads that spell this. Two views are one where they have one payload.
 abbrev pub machine : Setup → List ℕ → (List ℕ → Spelled View) → Machine View
 machine setup digest spelled = record {
@@ -51,4 +64,5 @@ machine setup digest spelled = record {
   spelled = spelled;
   count_empty = refl;
   count_effect = λ v e. refl;
+  same_itself = λ v. numbers_themselves (payload_of v);
 }

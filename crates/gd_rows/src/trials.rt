@@ -1,86 +1,11 @@
 // What no clause says: that a run with ample memory meets no want of it, and the reports as the formats have them.
-ghost use Rattle.std.specs.Prelude.{◌≡◌, [], true};
-
-use gd_base::{ListDraws, MemorySink, MemorySource};
-use gd_disk::{DISK_LEN, LabDisk, MemoryDisk, MemoryLab};
-use gd_store::{Booted, CopyState, Room, boot};
-use gd_top::{Status, cabinet};
+use crate::runs::{are_sound, script, trial};
+use gd_base::MemorySource;
+use gd_disk::{DISK_LEN, LabDisk, MemoryLab};
+use gd_top::Status;
 use std::alloc::Global;
 use std::process::Abort;
 use std::test::Fail;
-
-// How a trial went.
-#[derive(Drop)]
-struct Run<L> {
-    status: Status,
-    output: MemorySink,
-    lab: L,
-}
-
-// Runs the program over a laboratory, with room for as many bytes of output.
-fn trial<L: LabDisk + Drop>(
-    alloc: Global,
-    words: &[&str],
-    script: MemorySource,
-    room: usize,
-    lab: L,
-) -> Result<Run<L>, Fail>
-    requires size { (L.state lab).size ≡ DISK_LEN }
-    requires is_on { (L.state lab).is_on ≡ true }
-    requires armed { (L.state lab).armed ≡ [] }
-    requires found { (L.state lab).found ≡ [] }
-{
-    let mut script = script;
-    let mut setup = MemorySource::of(Vec::new(alloc), None);
-    let mut output = MemorySink::with_room(alloc, room)?;
-    let disk = MemoryDisk::of(vec![in alloc; 0; DISK_LEN as usize]?, None);
-    let draws = ListDraws::of(Vec::new(alloc));
-    let ended = cabinet(
-        alloc,
-        words,
-        &mut script,
-        &mut setup,
-        &mut output,
-        lab,
-        disk,
-        draws,
-    );
-    Ok(Run {
-        status: ended.status,
-        output,
-        lab: ended.lab,
-    })
-}
-
-// Both copies are sound at this count.
-fn are_sound<L: LabDisk + Drop>(
-    rt: &impl Abort,
-    alloc: Global,
-    lab: L,
-    count: u64,
-) -> Result<(), Fail> {
-    let mut lab = lab;
-    let mut room = Room::new(alloc)?;
-    if lab.len() != DISK_LEN {
-        return Err(Fail::new("another length"));
-    }
-    match boot(&mut lab, &mut room) {
-        Booted::Ready { found, sequence } => {
-            assert_eq!(rt; sequence, count);
-            assert_eq!(rt; found.a, CopyState::Sound(count));
-            assert_eq!(rt; found.b, CopyState::Sound(count));
-            Ok(())
-        }
-        _ => Err(Fail::new("no copy is sound")),
-    }
-}
-
-// The bytes of a script.
-fn script(alloc: Global, bytes: &[u8]) -> Result<MemorySource, Fail> {
-    let mut script = Vec::new(alloc);
-    script.extend_from_slice(bytes)?;
-    Ok(MemorySource::of(script, None))
-}
 
 #[test]
 fn one_bill_and_meters(rt: HostRuntime) -> Result<(), Fail> {
@@ -94,6 +19,101 @@ fn one_bill_and_meters(rt: HostRuntime) -> Result<(), Fail> {
         b"power 1: a sound 0, b sound 0\nstart at 1\nack bill 1 taken at 2\nBillIn 0000000500\nCoinIn 0000000000\nVoucherIn 0000000000\nWagered 0000000000\nWon 0000000000\nVoucherOut 0000000000\nCoinOut 0000000000\nHandWin 0000000000\nHandCancel 0000000000\nGamesPlayed 0000000000\nGamesWon 0000000000\nPowerUps 0000000001\nLogicOpen 0000000000\nMainOpen 0000000000\nCashboxOpen 0000000000\nDropOpen 0000000000\nend at 2 credit 500\n".as_slice()
     );
     are_sound(&rt, alloc, run.lab, 2)
+}
+
+#[test]
+fn power_cut_at_rest(rt: HostRuntime) -> Result<(), Fail> {
+    let alloc = rt.alloc();
+    let lines = script(alloc, b"bill 500\noff\non\nshow meters\n")?;
+    let lab = MemoryLab::new(alloc, DISK_LEN)?;
+    let run = trial(alloc, &["trial"], lines, 1000, lab)?;
+    assert_eq!(rt; run.status, Status::Done);
+    assert_eq!(rt;
+        run.output.bytes(),
+        b"power 1: a sound 0, b sound 0\nstart at 1\nack bill 1 taken at 2\noff\npower 2: a sound 2, b sound 2\nstart at 3\nBillIn 0000000500\nCoinIn 0000000000\nVoucherIn 0000000000\nWagered 0000000000\nWon 0000000000\nVoucherOut 0000000000\nCoinOut 0000000000\nHandWin 0000000000\nHandCancel 0000000000\nGamesPlayed 0000000000\nGamesWon 0000000000\nPowerUps 0000000002\nLogicOpen 0000000000\nMainOpen 0000000000\nCashboxOpen 0000000000\nDropOpen 0000000000\nend at 3 credit 500\n".as_slice()
+    );
+    are_sound(&rt, alloc, run.lab, 3)
+}
+
+#[test]
+fn power_off_at_the_end(rt: HostRuntime) -> Result<(), Fail> {
+    let alloc = rt.alloc();
+    let lines = script(
+        alloc,
+        b"# the evening ends\n\nbill 500\noff\n# nothing more\n",
+    )?;
+    let lab = MemoryLab::new(alloc, DISK_LEN)?;
+    let run = trial(alloc, &["trial"], lines, 1000, lab)?;
+    assert_eq!(rt; run.status, Status::Done);
+    assert_eq!(rt;
+        run.output.bytes(),
+        b"power 1: a sound 0, b sound 0\nstart at 1\nack bill 1 taken at 2\noff\nend off\n".as_slice()
+    );
+    assert_eq!(rt; run.lab.powered(), false);
+    Ok(())
+}
+
+// How many pairs of `off` and `on` follow the first power-on of a trial that reaches the last that is allowed.
+const PAIRS: usize = 255;
+
+#[test]
+fn as_many_power_ons_as_are_allowed(rt: HostRuntime) -> Result<(), Fail> {
+    let alloc = rt.alloc();
+    let mut bytes = Vec::new(alloc);
+    for _ in 0..PAIRS {
+        bytes.extend_from_slice(b"off\non\n")?;
+    }
+    let lines = script(alloc, bytes.as_slice())?;
+    let lab = MemoryLab::new(alloc, DISK_LEN)?;
+    let run = trial(alloc, &["trial"], lines, 20_000, lab)?;
+    assert_eq!(rt; run.status, Status::Done);
+    assert!(rt;
+        run.output
+            .bytes()
+            .ends_with(b"start at 256\nend at 256 credit 0\n")
+    );
+    are_sound(&rt, alloc, run.lab, 256)?;
+
+    bytes.extend_from_slice(b"off\non\nbill 500\n")?;
+    let lines = script(alloc, bytes.as_slice())?;
+    let lab = MemoryLab::new(alloc, DISK_LEN)?;
+    let run = trial(alloc, &["trial"], lines, 20_000, lab)?;
+    assert_eq!(rt; run.status, Status::ScriptFault);
+    assert!(rt;
+        run.output
+            .bytes()
+            .ends_with(b"start at 256\noff\nline 512\n")
+    );
+    assert_eq!(rt; run.lab.powered(), false);
+    Ok(())
+}
+
+// What a run of these lines ends with: the place of the line that is a script fault, and its report behind the opening.
+fn fault_of(rt: &impl Abort, alloc: Global, bytes: &[u8], wanted: &[u8]) -> Result<(), Fail> {
+    let lab = MemoryLab::new(alloc, DISK_LEN)?;
+    let run = trial(alloc, &["trial"], script(alloc, bytes)?, 1000, lab)?;
+    assert_eq!(rt; run.status, Status::ScriptFault);
+    assert!(rt;
+        run.output
+            .bytes()
+            .starts_with(b"power 1: a sound 0, b sound 0\nstart at 1\n")
+    );
+    assert!(rt; run.output.bytes().ends_with(wanted));
+    Ok(())
+}
+
+#[test]
+fn lines_that_the_power_forbids(rt: HostRuntime) -> Result<(), Fail> {
+    let alloc = rt.alloc();
+    fault_of(&rt, alloc, b"on\n", b"start at 1\nline 1\n")?;
+    fault_of(&rt, alloc, b"off\noff\n", b"start at 1\noff\nline 2\n")?;
+    fault_of(&rt, alloc, b"off\nbill 500\n", b"start at 1\noff\nline 2\n")?;
+    fault_of(
+        &rt,
+        alloc,
+        b"off\nshow meters\non\n",
+        b"start at 1\noff\nline 2\n",
+    )
 }
 
 #[test]

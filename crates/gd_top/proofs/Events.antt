@@ -14,13 +14,13 @@ use Rattle.gd_cabinet.specs.Answered.{offered, syncs_of}
 use Rattle.gd_disk.specs.Disk.{DiskState}
 use Rattle.gd_disk.specs.Runs.{CanMeet, CutOrFaultIn}
 use Rattle.gd_top.specs.Answered.{answer_text}
-use Rattle.gd_top.specs.Carrying.{Unseen, Moves, at, IsWhole}
+use Rattle.gd_top.specs.Carrying.{Unseen, Moves, at, standing, IsWhole}
 use Rattle.gd_base.proofs.Answer.{new_event}
 use Rattle.gd_top.specs.Lines.{answer_line}
 use Rattle.gd_top.specs.Items.{event_told}
 use Rattle.gd_top.specs.Offers.{is_broken, counted, unless_broken, Offer}
 use Rattle.gd_top.specs.Openings.{recorded, power_on}
-use Rattle.gd_top.specs.State.{Breaks, told, ends}
+use Rattle.gd_top.specs.State.{On, Breaks, told, ends}
 use Rattle.gd_top.proofs.Carried.{stays}
 use Rattle.gd_top.proofs.Equations.{answered_new, answered_again, answered_step, answered_full}
 
@@ -35,6 +35,7 @@ module _ {V : Type 0} (M : Machine V) (B : Blocks) where
     moved = λ x. record x { history = entry_of M B 0 v e ∷ x.history; offers = x.offers + 1; syncs = x.syncs + 6 };
     offers = λ x. refl;
     starts = λ x. refl;
+    finds = λ later x. refl;
     broken_at = λ x. refl;
   }
 
@@ -45,23 +46,23 @@ module _ {V : Type 0} (M : Machine V) (B : Blocks) where
   moves_by v e Stepped.HistoryFull = stays
 
   event_by : (v : V) (e : Numbered) (a : Stepped) → answer M v e ≡ a → (n p : ℕ) (x : Unseen V) → IsWhole x.broken_at (x.offers + (moves_by v e a).made)
-      → event_told M B e (at v n p x)
-      ≡ told (answer_text e a (M.count (after_answer M v e (draw_of M B 0 v e.event) a))) (at (after_answer M v e (draw_of M B 0 v e.event) a) n p ((moves_by v e a).moved x))
+      → event_told M B e (at (standing v On n p) x)
+      ≡ told (answer_text e a (M.count (after_answer M v e (draw_of M B 0 v e.event) a))) (at (standing (after_answer M v e (draw_of M B 0 v e.event) a) On n p) ((moves_by v e a).moved x))
   event_by v e (Stepped.New reply) h n p x whole =
-      let s = at v n p x in
+      let s = at (standing v On n p) x in
       let entry = entry_of M B 0 v e in
       answered_new M B (power_on M B) e s reply h
       ∙ ap (λ (b : Bool). let o : Offer V = unless_broken b 6 (counted 6 s) in recorded M (power_on M B) entry o.fate o.state) (whole (x.offers + 1) (omega arith))
-      ∙ ap (λ (r : Reply). told (answer_line (codes "ack") (device_of e.event) e.number r (M.count (M.effect v entry))) (at (M.effect v entry) n p ((one_entry v e).moved x)))
+      ∙ ap (λ (r : Reply). told (answer_line (codes "ack") (device_of e.event) e.number r (M.count (M.effect v entry))) (at (standing (M.effect v entry) On n p) ((one_entry v e).moved x)))
       (new_event M v e reply h).judged
-  event_by v e (Stepped.Again reply) h n p x whole = answered_again M B (power_on M B) e (at v n p x) reply h
-  event_by v e (Stepped.OutOfStep expected) h n p x whole = answered_step M B (power_on M B) e (at v n p x) expected h
-  event_by v e Stepped.HistoryFull h n p x whole = answered_full M B (power_on M B) e (at v n p x) h
+  event_by v e (Stepped.Again reply) h n p x whole = answered_again M B (power_on M B) e (at (standing v On n p) x) reply h
+  event_by v e (Stepped.OutOfStep expected) h n p x whole = answered_step M B (power_on M B) e (at (standing v On n p) x) expected h
+  event_by v e Stepped.HistoryFull h n p x whole = answered_full M B (power_on M B) e (at (standing v On n p) x) h
 
   -- an event tells the line of its answer, and leaves the view that it was offered to
   pub event_is_told : (v : V) (e : Numbered) (n p : ℕ) (x : Unseen V) → IsWhole x.broken_at (x.offers + (moves_by v e (answer M v e)).made)
-      → event_told M B e (at v n p x)
-      ≡ told (answer_text e (answer M v e) (M.count (offered M B 0 v e))) (at (offered M B 0 v e) n p ((moves_by v e (answer M v e)).moved x))
+      → event_told M B e (at (standing v On n p) x)
+      ≡ told (answer_text e (answer M v e) (M.count (offered M B 0 v e))) (at (standing (offered M B 0 v e) On n p) ((moves_by v e (answer M v e)).moved x))
   event_is_told v e n p x whole = event_by v e (answer M v e) refl n p x whole
 
   broken_now : (b : Option ℕ) (n : ℕ) → b ≡ Some n → is_broken b n ≡ true
@@ -69,9 +70,9 @@ module _ {V : Type 0} (M : Machine V) (B : Blocks) where
 
   -- the disk fails in a new event: nothing is told of it
   pub event_breaks : (v : V) (e : Numbered) (reply : Reply) → answer M v e ≡ Stepped.New reply → (n p : ℕ) (x : Unseen V) → x.broken_at ≡ Some (x.offers + 1)
-      → event_told M B e (at v n p x) ≡ ends Breaks [] (counted 6 (at v n p x))
+      → event_told M B e (at (standing v On n p) x) ≡ ends Breaks [] (counted 6 (at (standing v On n p) x))
   event_breaks v e reply h n p x b =
-      let s = at v n p x in
+      let s = at (standing v On n p) x in
       let entry = entry_of M B 0 v e in
       answered_new M B (power_on M B) e s reply h
       ∙ ap (λ (b : Bool). let o : Offer V = unless_broken b 6 (counted 6 s) in recorded M (power_on M B) entry o.fate o.state) (broken_now x.broken_at (x.offers + 1) b)

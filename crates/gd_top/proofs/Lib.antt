@@ -1,4 +1,7 @@
 mod Head
+pub mod Images
+pub mod MadeMemory
+pub mod PowerLines
 mod OneEntry
 mod Spelling
 pub mod Joins
@@ -7,14 +10,13 @@ pub mod Legal
 pub mod Reading
 pub mod Pieces
 pub mod Scripts
-pub mod Grammar
 pub mod Carried
 pub mod Events
 pub mod Opening
 pub mod OneLine
 pub mod Exits
 pub mod Alike
+pub mod Ends
 pub mod WholeRun
-pub mod FirstOpening
 mod Examples
 mod Rows

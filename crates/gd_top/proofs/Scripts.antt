@@ -1,10 +1,12 @@
 -- A script in two parts, and its next line.
-use Rattle.std.proofs.Common.{◌≡◌, ◌≢◌, ℕ, ◌≤◌, ◌<◌, nat_le, List, [], ◌∷◌, ◌++◌, Option, None, Bool, true, false, refl, ap, ◌∙◌, append-nil, append_assoc, map, length, length-append, if◌then◌else◌, arith}
+use Rattle.std.proofs.Common.{◌≡◌, ◌≢◌, ℕ, ◌<◌, nat_le, List, [], ◌∷◌, ◌++◌, Option, None, Bool, false, refl, ap, ◌∙◌, append-nil, append_assoc, map, length, length-append, if◌then◌else◌, arith, ok_or, Err}
 use Rattle.std.proofs.lemmas.Bool.Decides.{nat_tests}
 use Rattle.gd_script.specs.declared.item.Item.{Item}
-use Rattle.gd_top.specs.Grammar.{item_of}
-use Rattle.gd_top.specs.Script.{Pieces, pieces_of, HasNoEnd, line_of, rest_lines, lines_of_pieces, script_of, whole_lines}
-use Rattle.gd_top.specs.declared.lines.TheConstants.{LINE_LEN}
+use Rattle.gd_script.specs.Reading.{item_of, read_of}
+use Rattle.gd_script.specs.declared.item.LineFault.{LineFault}
+use Rattle.gd_top.specs.Script.{Pieces, pieces_of, HasNoEnd, line_of, read_item, rest_lines, lines_of_pieces, script_of, whole_lines}
+use Rattle.gd_top.specs.Served.{served_of}
+use Rattle.gd_script.specs.declared.limits.TheConstants.{LINE_LEN}
 use Rattle.gd_top.proofs.Pieces.{pieces_append, pieces_line, pieces_rest, pieces_long, put_all}
 
 map_append : {A B : Type 0} (f : A → B) (xs ys : List A) → map f (xs ++ ys) ≡ map f xs ++ map f ys
@@ -37,9 +39,10 @@ pub script_cut : (line : List ℕ) → HasNoEnd line → line ≢ [] → script_
 script_cut line h n = ap lines_of_pieces (pieces_rest line h) ∙ rest_is_fault line n
 
 too_long : (front rest : List ℕ) → LINE_LEN < length front → line_of (front ++ rest) ≡ None
+unfolding read_of
 too_long front rest h =
     let long : nat_le (length (front ++ rest)) LINE_LEN ≡ false = grind (arith, nat_tests, length-append front rest) in
-    ap (λ (b : Bool). if b then item_of (front ++ rest) else None) long
+    ap (λ (b : Bool). served_of (read_item (if b then ok_or (item_of (front ++ rest)) LineFault.NotALine else Err LineFault.TooLong))) long
 
 long_lines : (front : List ℕ) (lines : List (List ℕ)) (rest : List ℕ) → LINE_LEN < length front → (tail : List (Option Item)) × (lines_of_pieces (put_all front lines rest) ≡ None ∷ tail)
 long_lines [] lines rest h = absurd (omega arith)
@@ -51,12 +54,6 @@ pub script_long : (front more : List ℕ) → HasNoEnd front → LINE_LEN < leng
 script_long front more h n =
     let found = long_lines front (pieces_of more).lines (pieces_of more).rest n in
     (found.0, ap lines_of_pieces (pieces_long front more h) ∙ found.1)
-
--- a line that is short enough is judged by what it says
-pub short_line : (line : List ℕ) → length line ≤ LINE_LEN → line_of line ≡ item_of line
-short_line line h =
-    let short : nat_le (length line) LINE_LEN ≡ true = grind (arith, nat_tests) in
-    ap (λ (b : Bool). if b then item_of line else None) short
 
 -- ================ whole lines, and one line more
 
@@ -71,7 +68,11 @@ pub still_whole : (came line : List ℕ) → (pieces_of came).rest ≡ [] → Ha
 still_whole came line e h =
     ap (λ (p : Pieces). p.rest) (pieces_append came (line ++ 10 ∷ []) e) ∙ ap (λ (p : Pieces). p.rest) (pieces_line line [] h)
 
--- bytes without LF are no line more
+-- bytes without LF stand behind them
+pub still_rest : (came line : List ℕ) → (pieces_of came).rest ≡ [] → HasNoEnd line → (pieces_of (came ++ line)).rest ≡ line
+still_rest came line e h = ap (λ (p : Pieces). p.rest) (pieces_append came line e) ∙ ap (λ (p : Pieces). p.rest) (pieces_rest line h)
+
+-- and are no line more
 pub no_line_more : (came line : List ℕ) → (pieces_of came).rest ≡ [] → HasNoEnd line → whole_lines (came ++ line) ≡ whole_lines came
 no_line_more came line e h =
     ap (λ (p : Pieces). map line_of p.lines) (pieces_append came line e)

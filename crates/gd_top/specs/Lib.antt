@@ -7,14 +7,14 @@ pub mod Items
 pub mod Life
 pub mod Legal
 pub mod Toy
+pub mod Starts
 pub mod Carrying
+pub mod Words
 pub mod Answered
 pub mod Running
 pub mod Served
 pub mod LinesDone
-pub mod Grammar
 pub mod Script
 pub mod Reads
-pub mod Memory
 pub mod Trial
 pub mod Statuses

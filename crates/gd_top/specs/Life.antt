@@ -60,10 +60,10 @@ image_told M blocks lines image broken_at =
 -- ================ the end
 
 -- the last line, where the input was read to its end
-abbrev pub end_line : {V : Type 0} → Machine V → Phase → State V → List ℕ
-end_line M On s = codes "end at " ++ decimal (M.count s.view) ++ codes " credit " ++ decimal (M.credit s.view) ++ codes "\n"
-end_line M Off s = codes "end off\n"
-end_line M Locked s = codes "end locked\n"
+abbrev pub end_line : {V : Type 0} → Machine V → Phase → V → List ℕ
+end_line M On v = codes "end at " ++ decimal (M.count v) ++ codes " credit " ++ decimal (M.credit v) ++ codes "\n"
+end_line M Off v = codes "end off\n"
+end_line M Locked v = codes "end locked\n"
 
 abbrev pub end_status : Phase → Status
 end_status On = Status.Done
@@ -72,7 +72,7 @@ end_status Locked = Status.Locked
 
 -- the last line, by how the lines ended; that of a setup that differs was printed by the opening
 abbrev pub last_line : {V : Type 0} → Machine V → Outcome → State V → List ℕ
-last_line M Goes s = end_line M s.phase s
+last_line M Goes s = end_line M s.phase s.view
 last_line M Stops s = codes "line " ++ decimal (s.lines + 1) ++ codes "\n"
 last_line M Differs s = []
 last_line M Breaks s = codes "disk fault\n"

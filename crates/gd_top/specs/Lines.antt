@@ -1,5 +1,5 @@
 -- The lines of a report.
-use Rattle.std.specs.Prelude.{ℕ, ◌+◌, ◌/◌, ◌%◌, nat_lt, if◌then◌else◌, List, [], ◌∷◌, ◌++◌, codes, decimal, flat_map}
+use Rattle.std.specs.Prelude.{ℕ, ◌+◌, ◌/◌, ◌%◌, nat_lt, Bool, true, false, if◌then◌else◌, List, [], ◌∷◌, ◌++◌, codes, decimal, flat_map}
 use Rattle.gd_base.specs.declared.event.Device.{Device}
 use Rattle.gd_base.specs.declared.event.Reply.{Reply}
 use Rattle.gd_base.specs.Names.{device_name, reply_text}
@@ -26,6 +26,11 @@ repair_text RepairB = codes " repaired b"
 
 abbrev pub start_line : ℕ → Repair → List ℕ
 start_line n repair = codes "start at " ++ decimal n ++ repair_text repair ++ codes "\n"
+
+-- there is no start where the history was full
+abbrev pub start_text : Bool → ℕ → Repair → List ℕ
+start_text true n repair = []
+start_text false n repair = start_line n repair
 
 -- `ack DEVICE NUMBER REPLY at N`, and `again` so too
 abbrev pub answer_line : List ℕ → Device → ℕ → Reply → ℕ → List ℕ

@@ -2,7 +2,7 @@
 use Rattle.std.specs.Prelude.{ℕ, ◌≡◌, ◌≢◌, List, [], ◌∷◌, ◌++◌, length, Result, Ok, Err, Option}
 use Rattle.std.specs.Io.KnownBytes.{Consumes, IsAtEnd}
 use Rattle.gd_top.specs.declared.lines.LineEnd.{LineEnd}
-use Rattle.gd_top.specs.declared.lines.TheConstants.{LINE_LEN}
+use Rattle.gd_script.specs.declared.limits.TheConstants.{LINE_LEN}
 
 -- The line is what came, up to how it ended. `old` and `new` are the bytes left before and after.
 abbrev pub Takes : Option (List ℕ) → Option (List ℕ) → List ℕ → LineEnd → Type 0

@@ -1,10 +1,13 @@
 -- A script as its lines.
 --
 -- The definition goes from the end of the bytes, and the reader from their front.
-use Rattle.std.specs.Prelude.{ℕ, ◌==◌, ◌≢◌, nat_le, Bool, true, false, if◌then◌else◌, List, [], ◌∷◌, ◌++◌, All, length, map, Option, None}
+use Rattle.std.specs.Prelude.{ℕ, ◌≡◌, ◌==◌, ◌≢◌, ◌≤◌, ◌<◌, ◌⊎◌, length, Bool, true, false, List, [], ◌∷◌, ◌++◌, All, map, Option, Some, None, Result, Ok, Err}
 use Rattle.gd_script.specs.declared.item.Item.{Item}
-use Rattle.gd_top.specs.declared.lines.TheConstants.{LINE_LEN}
-use Rattle.gd_top.specs.Grammar.{item_of}
+use Rattle.gd_script.specs.declared.limits.TheConstants.{LINE_LEN}
+use Rattle.gd_script.specs.Reading.{read_of}
+use Rattle.gd_script.specs.declared.item.LineFault.{LineFault}
+use Rattle.gd_top.specs.Served.{served_of}
+use Rattle.gd_top.specs.declared.lines.TheConstants.{MOST_LINES}
 
 -- ================ bytes as lines
 
@@ -36,9 +39,13 @@ HasNoEnd bytes = All (λ b. b ≢ 10) bytes
 
 -- ================ lines as items
 
--- None is a line that is too long or no item
+abbrev pub read_item : Result Item LineFault → Option Item
+read_item (Ok item) = Some item
+read_item (Err fault) = None
+
+-- None is a line that is too long, no item, or one that isn't served
 abbrev pub line_of : List ℕ → Option Item
-line_of line = if nat_le (length line) LINE_LEN then item_of line else None
+line_of line = served_of (read_item (read_of line))
 
 -- a last line without LF is no item, whatever it holds
 abbrev pub rest_lines : List ℕ → List (Option Item)
@@ -55,3 +62,11 @@ script_of bytes = lines_of_pieces (pieces_of bytes)
 -- the lines that end with LF
 abbrev pub whole_lines : List ℕ → List (Option Item)
 whole_lines bytes = map line_of (pieces_of bytes).lines
+
+-- ================ what bytes show that aren't a whole script
+
+-- Behind their whole lines, of which there are so many, the bytes show no script fault: what stands there may be the beginning of a
+-- line. They show one by more than 120 bytes of a line, and by a byte behind the last line that is allowed.
+pub record ShowsNoFault (came : List ℕ) (lines : ℕ) : Type 0 where
+  pub short : length (pieces_of came).rest ≤ LINE_LEN
+  pub room : (lines < MOST_LINES) ⊎ ((pieces_of came).rest ≡ [])

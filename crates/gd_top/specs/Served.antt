@@ -1,17 +1,26 @@
 -- The items that are served so far.
-use Rattle.std.specs.Prelude.{◌≢◌, ℕ, ◌+◌}
+use Rattle.std.specs.Prelude.{ℕ, ◌+◌, Bool, true, false, if◌then◌else◌, Option, None, Some}
 use Rattle.gd_base.specs.declared.event.Event.{Event}
 use Rattle.gd_base.specs.declared.step.Numbered.{Numbered}
+use Rattle.gd_base.specs.declared.step.What.{What}
 use Rattle.gd_base.specs.Entry.{device_of}
 use Rattle.gd_base.specs.Machine.{Machine}
 use Rattle.gd_script.specs.declared.item.Item.{Item}
 use Rattle.gd_top.specs.declared.step.Step.{Step}
+use Rattle.gd_top.specs.Carrying.{Standing}
 
--- an event of a line, or a text
-abbrev pub IsServed : Item → Type 0
-IsServed (Item.Event event) = event ≢ Event.Start
-IsServed (Item.Show what) = Unit {0}
-IsServed _ = ⊥
+-- a line that says another item is a script fault until that item is built
+abbrev pub is_served : Item → Bool
+is_served (Item.Event (Event.Bill value)) = true
+is_served Item.Off = true
+is_served Item.On = true
+is_served (Item.Show What.Meters) = true
+is_served Item.Skip = true
+is_served _ = false
+
+abbrev pub served_of : Option Item → Option Item
+served_of None = None
+served_of (Some item) = if is_served item then Some item else None
 
 -- how many lines were carried out after one more that ended so
 abbrev pub lines_after : Step → ℕ → ℕ
@@ -19,6 +28,9 @@ lines_after Step.Goes lines = lines + 1
 lines_after Step.Stops lines = lines
 lines_after Step.DiskFault lines = lines
 lines_after Step.WriteFault lines = lines
+
+abbrev pub after_line : {V : Type 0} → Step → Standing V → Standing V
+after_line step s = record s { lines = lines_after step s.lines }
 
 -- the event under its device's next number
 abbrev pub next_of : {V : Type 0} → Machine V → V → Event → Numbered

@@ -3,7 +3,7 @@
 -- The meaning of a run is a function. Its inputs from outside are three lists that it uses up in order: the lines of
 -- the script, `starts` (what each power-on found) and `falls` (in which offers a cut that counts calls came). The machine
 -- beneath is a record of functions over a type of views.
-use Rattle.std.specs.Prelude.{ℕ, Bool, List, [], ◌∷◌, ◌++◌, Option}
+use Rattle.std.specs.Prelude.{ℕ, Bool, true, false, List, [], ◌∷◌, ◌++◌, Option}
 use Rattle.gd_base.specs.Entry.{Entry}
 use Rattle.gd_base.specs.Machine.{Machine}
 use Rattle.gd_base.specs.Spelled.{Spelled}
@@ -32,6 +32,11 @@ pub data Phase : Type 0 where
   On : Phase
   Off : Phase
   Locked : Phase
+
+abbrev pub is_powered : Phase → Bool
+is_powered On = true
+is_powered Off = false
+is_powered Locked = true
 
 pub record State (V : Type 0) : Type 0 where
   pub view : V

@@ -1,11 +1,12 @@
 -- A machine that takes bills of 500, to try the definition on.
-use Rattle.std.specs.Prelude.{◌≡◌, refl, ℕ, ◌+◌, ◌==◌, ◌&&◌, false, if◌then◌else◌, ◌++◌, codes, decimal, replicate}
+use Rattle.std.specs.Prelude.{◌≡◌, refl, ℕ, ◌+◌, ◌==◌, ◌&&◌, true, false, if◌then◌else◌, ◌++◌, codes, decimal, replicate}
 use Rattle.gd_base.specs.declared.event.Device.{Device}
 use Rattle.gd_base.specs.declared.event.Event.{Event}
 use Rattle.gd_base.specs.declared.event.Refusal.{Refusal}
 use Rattle.gd_base.specs.declared.event.Reply.{Reply}
 use Rattle.gd_base.specs.Machine.{Machine, Blocks}
 use Rattle.gd_base.specs.Spelled.{Unreadable}
+use Rattle.gd_base.specs.TheMachine.{number_itself, both_hold}
 
 pub record View : Type 0 where
   pub count : ℕ
@@ -34,6 +35,12 @@ pub count_after : (reply : Reply) (event : Event) (v : View) → (after reply ev
 count_after reply (Event.Bill x) v = refl
 count_after reply _ v = refl
 
+pub itself : (v : View) → ((v.count == v.count) && (v.credit == v.credit) && (v.bills == v.bills) && (v.starts == v.starts)) ≡ true
+itself v =
+    both_hold ((v.count == v.count) && (v.credit == v.credit) && (v.bills == v.bills)) (v.starts == v.starts)
+    (both_hold ((v.count == v.count) && (v.credit == v.credit)) (v.bills == v.bills)
+    (both_hold (v.count == v.count) (v.credit == v.credit) (number_itself v.count) (number_itself v.credit)) (number_itself v.bills)) (number_itself v.starts)
+
 abbrev pub toy : Machine View
 toy = record {
   digest = replicate 32 0;
@@ -52,6 +59,7 @@ toy = record {
   spelled = λ payload. Unreadable;
   count_empty = refl;
   count_effect = λ v e. count_after e.reply e.event v;
+  same_itself = itself;
 }
 
 abbrev pub zeros : Blocks

@@ -5,9 +5,10 @@ ghost use Rattle.gd_base.specs.declared.step.Stepped.{Stepped as SteppedData};
 ghost use Rattle.gd_cabinet.specs.Answered.{answered};
 ghost use Rattle.gd_cabinet.specs.Words.{cabinet_core, cabinet_disk, cabinet_draws, cabinet_lap, cabinet_stopped};
 ghost use Rattle.gd_top.specs.Answered.{answer_text};
-ghost use Rattle.gd_top.specs.Carrying.{CarriesBy};
+ghost use Rattle.gd_top.specs.Carrying.{outside, standing, CarriesBy};
 ghost use Rattle.gd_top.specs.Items.{event_told};
-ghost use Rattle.gd_top.specs.Running.{IsRunning, Leaves, Wrote};
+ghost use Rattle.gd_top.specs.Running.{IsOpen, Leaves, Wrote};
+ghost use Rattle.gd_top.specs.State.{On};
 
 use crate::giving::give_text;
 use crate::report::{push_answer_line, push_full_line, push_step_line};
@@ -41,11 +42,13 @@ pub(crate) fn carry_event<C: Core, K: Sink, L: LabDisk, W: Draws>(
     e: &Numbered,
 ) -> Step
     requires not_start { e.now.event ≢ Event.Start }
-    requires running { IsRunning (L.state (cabinet_disk cabinet.old)) (cabinet_stopped cabinet.old) (cabinet_lap cabinet.old) }
-    ensures carried { (lines power_ons : ℕ) → CarriesBy result (event_told (C.meaning (cabinet_core cabinet.old)) (W.block_of (cabinet_draws cabinet.old)) e.now)
-        (C.view (cabinet_core cabinet.old)) (C.view (cabinet_core cabinet.new)) lines lines power_ons (K.taken output.old) (K.taken output.new) }
-    ensures leaves { Leaves (C.meaning (cabinet_core cabinet.old)) (W.block_of (cabinet_draws cabinet.old)) result (C.view (cabinet_core cabinet.new))
-        (L.state (cabinet_disk cabinet.old)) (L.state (cabinet_disk cabinet.new)) (cabinet_stopped cabinet.new) (cabinet_lap cabinet.new) }
+    requires open { IsOpen (C.meaning (cabinet_core cabinet.old)) (C.view (cabinet_core cabinet.old)) (L.state (cabinet_disk cabinet.old)) (cabinet_stopped cabinet.old) (cabinet_lap cabinet.old) }
+    ensures carried { (lines power_ons : ℕ) → CarriesBy result (C.meaning (cabinet_core cabinet.old)) (W.block_of (cabinet_draws cabinet.old))
+        (event_told (C.meaning (cabinet_core cabinet.old)) (W.block_of (cabinet_draws cabinet.old)) e.now)
+        (standing (C.view (cabinet_core cabinet.old)) On lines power_ons) (standing (C.view (cabinet_core cabinet.new)) On lines power_ons)
+        (outside (L.state (cabinet_disk cabinet.old)) (K.taken output.old)) (outside (L.state (cabinet_disk cabinet.new)) (K.taken output.new)) (L.state (cabinet_disk cabinet.new)) }
+    ensures leaves { Leaves result (IsOpen (C.meaning (cabinet_core cabinet.old)) (C.view (cabinet_core cabinet.new)) (L.state (cabinet_disk cabinet.new)) (cabinet_stopped cabinet.new) (cabinet_lap cabinet.new))
+        (L.state (cabinet_disk cabinet.old)) (L.state (cabinet_disk cabinet.new)) }
     ensures wrote { Wrote result (K.faults output.old) (K.faults output.new) }
     ensures meaning { C.meaning (cabinet_core cabinet.new) ≡ C.meaning (cabinet_core cabinet.old) }
     ensures draws { (l i : ℕ) → W.block_of (cabinet_draws cabinet.new) l i ≡ W.block_of (cabinet_draws cabinet.old) l i }

@@ -1,13 +1,11 @@
 // What no clause says: lines that a source gives in pieces, and the texts as the formats have them.
 use crate::ahead::Ahead;
-use crate::items::read_item;
 use crate::lines::{LineBytes, LineEnd, next_line};
 use crate::report::{
     push_answer_line, push_end_line, push_fault_line, push_full_line, push_power_line,
     push_start_line, push_step_line,
 };
-use gd_base::{Device, Event, Failed, MemorySource, Refusal, Reply, Text, What};
-use gd_script::Item;
+use gd_base::{Device, Failed, MemorySource, Refusal, Reply, Text};
 use gd_store::{CopyState, Found, Why};
 use std::alloc::Global;
 use std::process::Abort;
@@ -88,35 +86,6 @@ fn how_lines_end(rt: HostRuntime) -> Result<(), Fail> {
         (Ok(LineEnd::TooLong), 120)
     );
     Ok(())
-}
-
-// ================ items
-
-fn bill(value: u32) -> Option<Item> {
-    Some(Item::Event(Event::Bill { value }))
-}
-
-#[test]
-fn lines_of_the_grammar(rt: HostRuntime) {
-    assert_eq!(rt; read_item(b"show meters"), Some(Item::Show(What::Meters)));
-    assert_eq!(rt; read_item(b"bill 0"), bill(0));
-    assert_eq!(rt; read_item(b"bill 500"), bill(500));
-    assert_eq!(rt; read_item(b"bill 100000000"), bill(100_000_000));
-}
-
-#[test]
-fn lines_that_are_no_items(rt: HostRuntime) {
-    assert_eq!(rt; read_item(b""), None);
-    assert_eq!(rt; read_item(b"bill"), None);
-    assert_eq!(rt; read_item(b"bill "), None);
-    assert_eq!(rt; read_item(b"bill  5"), None);
-    assert_eq!(rt; read_item(b"bill 5 "), None);
-    assert_eq!(rt; read_item(b"bill 5\r"), None);
-    assert_eq!(rt; read_item(b"bill +5"), None);
-    assert_eq!(rt; read_item(b"bill 05"), None);
-    assert_eq!(rt; read_item(b"bill 100000001"), None);
-    assert_eq!(rt; read_item(b"bill 1000000000"), None);
-    assert_eq!(rt; read_item(b"show meters "), None);
 }
 
 // ================ the lines of a report

@@ -9,9 +9,7 @@ ghost use Rattle.gd_top.specs.Reads.{TakesLine};
 use crate::ahead::Ahead;
 use arrayvec::ArrayVec;
 use gd_base::{Failed, Source};
-
-/// The most bytes of a line, its LF not among them.
-pub const LINE_LEN: usize = 120;
+use gd_script::LINE_LEN;
 
 /// The most lines of a script.
 pub const MOST_LINES: u64 = 1_000_000;

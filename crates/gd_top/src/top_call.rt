@@ -6,7 +6,7 @@ ghost use Rattle.gd_base.specs.BuiltIn.{built_in_setup};
 ghost use Rattle.gd_base.specs.Causes.{Rose};
 ghost use Rattle.gd_base.specs.SoFar.{machine_so_far};
 ghost use Rattle.gd_top.specs.Books.{view_of};
-ghost use Rattle.gd_top.specs.Trial.{is_trial, no_memory_text, usage_text, GivesLast, WroteBroken, WroteFront, WroteReport, WroteToFault, WroteFrontOf, CabinetDone, IsBuilt, IsUnopened};
+ghost use Rattle.gd_top.specs.Trial.{is_trial, no_memory_text, usage_text, GivesLast, WroteBroken, WroteFront, WroteReport, WroteToFault, WroteFrontOf, CabinetDone, IsBuilt, IsUnopened, told_status};
 
 use crate::bill_core::BillCore;
 use crate::books::Books;
@@ -16,6 +16,7 @@ use crate::last_line::give_last;
 use crate::status::Status;
 use crate::trial::carry;
 use gd_base::{Draws, Sink, Source, Text};
+use gd_cabinet::Parts;
 use gd_disk::{DISK_LEN, Disk, LabDisk};
 use gd_store::Room;
 use std::alloc::Global;
@@ -94,6 +95,8 @@ fn command<S: Source, K: Sink, L: LabDisk, D: Disk, W: Draws>(
     ensures read_cause { result.status ≡ Status.ReadFault → Rose (S.faults input.old) (S.faults input.new) }
     ensures write_cause { result.status ≡ Status.WriteFault → Rose (K.faults output.old) (K.faults output.new) }
     ensures disk_cause { result.status ≡ Status.DiskFault → Rose (L.state lab).faults (L.state result.lab).faults }
+    ensures exact { is_trial words.now ≡ true → (result.status ≡ Status.ReadFault → ⊥) → (result.status ≡ Status.WriteFault → ⊥) → (result.status ≡ Status.DiskFault → ⊥)
+        → (result.status ≡ Status.OutOfMemory) ⊎ IfSome (S.left input.old) (λ script. result.status ≡ told_status (machine_so_far built_in_setup) (W.block_of draws) script (L.state result.lab)) }
     ensures unopened { IsUnopened result.status → (result.lab ≡ lab) × (result.draws ≡ draws) }
     ensures disk { result.disk ≡ disk }
     ensures falls { result.falls.items ≡ [] }
@@ -103,13 +106,19 @@ fn command<S: Source, K: Sink, L: LabDisk, D: Disk, W: Draws>(
     }
     match Room::new(alloc) {
         Ok(room) => {
-            let carried = carry(empty_core(), room, input, output, lab, draws);
+            let parts = Parts {
+                core: empty_core(),
+                disk: lab,
+                draws,
+                room,
+            };
+            let trial = carry(parts, input, output);
             Ended {
-                status: carried.status,
-                falls: carried.falls,
-                lab: carried.lab,
+                status: trial.status,
+                falls: trial.falls,
+                lab: trial.lab,
                 disk,
-                draws: carried.draws,
+                draws: trial.draws,
             }
         }
         Err(_) => refuse(Status::OutOfMemory, "no memory\n", output, lab, disk, draws),
@@ -158,6 +167,10 @@ pub fn cabinet<S: Source, C: Source, K: Sink, L: LabDisk, D: Disk, W: Draws>(
     // 6: the report of the lines before the first faulty one, and its number.
     ensures script_fault { result.status ≡ Status.ScriptFault → IfSome (S.left input.old) (λ script. WroteReport (machine_so_far built_in_setup) (W.block_of draws) Status.ScriptFault script
         (K.taken output.old) (K.taken output.new) (L.state result.lab)) }
+    // Where no count of the outside rose, it ends as the definition says: 6 exactly at a script fault, else 0, or for want of memory.
+    ensures exact { is_trial words.now ≡ true → (Rose (S.faults input.old) (S.faults input.new) → ⊥) → (Rose (K.faults output.old) (K.faults output.new) → ⊥)
+        → (Rose (L.state lab).faults (L.state result.lab).faults → ⊥)
+        → (result.status ≡ Status.OutOfMemory) ⊎ IfSome (S.left input.old) (λ script. result.status ≡ told_status (machine_so_far built_in_setup) (W.block_of draws) script (L.state result.lab)) }
     // 9: nothing was made.
     ensures no_memory { result.status ≡ Status.OutOfMemory → Appends (K.taken output.old) (K.taken output.new) no_memory_text }
     ensures built { IsBuilt result.status }

@@ -1,37 +1,33 @@
-use Rattle.std.proofs.Common.{◌∙◌, sym, List, ℕ}
-use Rattle.gd_base.specs.declared.event.Event.{Event}
-use Rattle.gd_cabinet.specs.Words.{cabinet_core, cabinet_draws}
-use Rattle.gd_script.specs.declared.item.Item.{Item}
-use Rattle.gd_top.specs.Grammar.{Says}
-use Rattle.gd_top.specs.Served.{IsServed}
-use Rattle.gd_top.proofs.Grammar.{says_item}
-use Rattle.gd_top.proofs.OneLine.{item_line, stopped_line}
+use Rattle.std.proofs.Common.{◌∙◌, sym}
+use Rattle.gd_top.specs.Carrying.{standing, outside}
+use Rattle.gd_top.specs.Words.{memory_core, memory_disk, memory_draws, memory_phase}
+use Rattle.gd_top.proofs.OneLine.{item_line, stopped_line, unserved_line}
 use Rattle.gd_top.proofs.carrying.carry_line.Goals as goal
 
-event_served : (line : List ℕ) (event : Event) → Says line (Item.Event event) → IsServed (Item.Event event)
-event_served line (Event.Bill n) says = λ e. cc e
-event_served line _ says = absurd says
+pub returns-then-is_served-clause-carried : goal.returns-then-is_served-clause-carried
+returns-then-is_served-clause-carried g c =
+    let run = c.args.run in
+    let after = c.carry_item.result.run in
+    λ lines few.
+    item_line (g.C.Core.meaning (memory_core run.memory)) (g.W.Draws.block_of (memory_draws run.memory)) c.carry_item.result.step
+    (standing (g.C.Core.view (memory_core run.memory)) (memory_phase run.memory) lines run.power_ons)
+    (standing (g.C.Core.view (memory_core after.memory)) (memory_phase after.memory) lines after.power_ons)
+    _ _ _ c.args.line.now c.in-Ok.item (sym c.read_line.ensures.value ∙ c.in-Ok.is) (sym c.is_served.ensures ∙ c.if-is_served.true) few (c.carry_item.ensures.carried lines)
 
-served : (line : List ℕ) (item : Item) → Says line item → IsServed item
-served line (Item.Event event) says = event_served line event says
-served line (Item.Show what) says = tt
-served line _ says = absurd says
+pub returns-else-is_served-clause-carried : goal.returns-else-is_served-clause-carried
+returns-else-is_served-clause-carried g c =
+    let run = c.args.run in
+    λ lines few.
+    unserved_line (g.C.Core.meaning (memory_core run.memory)) (g.W.Draws.block_of (memory_draws run.memory))
+    (standing (g.C.Core.view (memory_core run.memory)) (memory_phase run.memory) lines run.power_ons)
+    (outside (g.L.Disk.state (memory_disk run.memory)) (g.K.Sink.taken c.args.output.now))
+    c.args.line.now c.in-Ok.item (sym c.read_line.ensures.value ∙ c.in-Ok.is) (sym c.is_served.ensures ∙ c.if-is_served.false)
 
-pub carry_item-requires-clause-served : goal.carry_item-requires-clause-served
-carry_item-requires-clause-served g c =
-    let line = c.args.line.now in
-    served line c.in-Some.item (says_item line c.in-Some.item (sym c.read_item.ensures ∙ c.in-Some.is))
-
-pub returns-in-Some-clause-carried : goal.returns-in-Some-clause-carried
-returns-in-Some-clause-carried g c =
-    let cabinet = c.args.cabinet.now in
-    λ lines power_ons few.
-    item_line (g.C.Core.meaning (cabinet_core cabinet)) (g.W.Draws.block_of (cabinet_draws cabinet)) c.carry_item.result _ _ lines power_ons _ _ c.args.line.now c.in-Some.item
-    c.requires.short (sym c.read_item.ensures ∙ c.in-Some.is) few (c.carry_item.ensures.carried lines power_ons)
-
-pub returns-in-None-clause-carried : goal.returns-in-None-clause-carried
-returns-in-None-clause-carried g c =
-    let cabinet = c.args.cabinet.now in
-    λ lines power_ons few.
-    stopped_line (g.C.Core.meaning (cabinet_core cabinet)) (g.W.Draws.block_of (cabinet_draws cabinet)) _ lines power_ons _ c.args.line.now
-    c.requires.short (sym c.read_item.ensures ∙ c.in-None.is)
+pub returns-in-Err-clause-carried : goal.returns-in-Err-clause-carried
+returns-in-Err-clause-carried g c =
+    let run = c.args.run in
+    λ lines few.
+    stopped_line (g.C.Core.meaning (memory_core run.memory)) (g.W.Draws.block_of (memory_draws run.memory))
+    (standing (g.C.Core.view (memory_core run.memory)) (memory_phase run.memory) lines run.power_ons)
+    (outside (g.L.Disk.state (memory_disk run.memory)) (g.K.Sink.taken c.args.output.now))
+    c.args.line.now c.in-Err.field-0 (sym c.read_line.ensures.value ∙ c.in-Err.is)

@@ -3,13 +3,13 @@ use Rattle.gd_base.specs.BuiltIn.{built_in_setup}
 use Rattle.gd_base.specs.SoFar.{machine_so_far}
 use Rattle.gd_base.specs.declared.setup.Setup.{Setup}
 use Rattle.gd_top.specs.Trial.{is_trial, CabinetDone}
-use Rattle.gd_top.proofs.FirstOpening.{carried_done}
+use Rattle.gd_top.proofs.WholeRun.{carried_done, exactly_by}
 use Rattle.gd_top.proofs.top_call.command.Goals as goal
 
 pub returns-in-Ok-clause-done : goal.returns-in-Ok-clause-done
 returns-in-Ok-clause-done g c =
     let B = g.W.Draws.block_of c.args.draws in
-    let run = c.carry-carried in
+    let run = c.carry-trial in
     let status = run.result.status in
     let left = g.S.Source.left c.args.input.now in
     let rest = g.S.Source.left run.new.input in
@@ -20,3 +20,11 @@ returns-in-Ok-clause-done g c =
     subst (λ (b : Bool). CabinetDone (machine_so_far built_in_setup) B b status left rest taken gave disk) (sym yes)
     (subst (λ (s : Setup). CabinetDone (machine_so_far s) B true status left rest taken gave disk) c.empty_core.ensures.setup
     (carried_done (machine_so_far c.empty_core.result.setup) B status left rest taken gave disk run.ensures.of_trial run.ensures.done))
+
+pub returns-in-Ok-clause-exact : goal.returns-in-Ok-clause-exact
+returns-in-Ok-clause-exact g c =
+    let run = c.carry-trial in
+    let h = returns-in-Ok-clause-done g c in
+    λ is read written broke.
+    exactly_by (machine_so_far built_in_setup) (g.W.Draws.block_of c.args.draws) (is_trial c.args.words.now) run.result.status (g.S.Source.left c.args.input.now) (g.S.Source.left run.new.input)
+    (g.K.Sink.taken c.args.output.now) (g.K.Sink.taken run.new.output) (g.L.Disk.state run.result.lab) is h read written broke

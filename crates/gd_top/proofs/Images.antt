@@ -1,0 +1,106 @@
+-- What an image shows that has a view in both copies.
+use Rattle.std.proofs.Common.{◌≡◌, ◌∙◌, ap, sym, subst, refl, inl, inr, ℕ, List, arith, Option, Some}
+use Rattle.std.proofs.lemmas.Bool.Decides.{nat_tests}
+use Rattle.gd_base.specs.Machine.{Machine, Blocks}
+use Rattle.gd_base.specs.Opens.{opens}
+use Rattle.gd_base.specs.Spelled.{Shows, Foreign, Unreadable}
+use Rattle.gd_cabinet.specs.Opened.{IsLocked}
+use Rattle.gd_cabinet.specs.Opening.{IsOpening, start_of, started}
+use Rattle.gd_cabinet.specs.Shown.{shows, spelled_boot, IsInBoth, ShowsEither}
+use Rattle.gd_cabinet.specs.declared.locked.Locked.{Locked}
+use Rattle.gd_cabinet.proofs.Showing.{settled_shows}
+use Rattle.gd_disk.specs.Disk.{DiskState, IfTold, IsSynced, Loses, Stands}
+use Rattle.gd_disk.specs.Runs.{LeavesOnly}
+use Rattle.gd_store.specs.Copy.{chosen, copy_a, copy_b, state_of, stored_payload}
+use Rattle.gd_store.specs.declared.copy.CopyState.{CopyState}
+use Rattle.gd_store.specs.declared.layout.TheConstants.{LAYOUT}
+use Rattle.gd_store.proofs.Sealed.{same_bytes}
+use Rattle.gd_top.specs.Carrying.{ShowsNear}
+use Rattle.gd_top.specs.Running.{IsSettled}
+
+both_boot : (m : ℕ) (p : List ℕ) (s t : CopyState) (q r : List ℕ) → s ≡ CopyState.Sound m → t ≡ CopyState.Sound m → q ≡ p → r ≡ p → chosen s t q r ≡ Some (m, p)
+both_boot m p s t q r is_s is_t is_q is_r =
+    let same = same_bytes p p refl in
+    let plain : chosen (CopyState.Sound m) (CopyState.Sound m) p p ≡ Some (m, p) = grind (arith, nat_tests, same) in
+    cc (plain, is_s, is_t, is_q, is_r)
+
+-- an image that has a view in both copies shows it
+pub holds_shows : {V : Type 0} (M : Machine V) (v : V) (image : List ℕ) → IsInBoth M v image → shows M image ≡ Shows v
+holds_shows M v image h =
+    settled_shows M (M.count v) h.payload v image
+    (both_boot (M.count v) h.payload (state_of LAYOUT (copy_a LAYOUT image)) (state_of LAYOUT (copy_b LAYOUT image)) (stored_payload LAYOUT (copy_a LAYOUT image)) (stored_payload LAYOUT (copy_b LAYOUT image)) h.both.0.0 h.both.1.0 h.both.0.1 h.both.1.1)
+    h.spelled refl
+
+-- a fact of what a read gives, where it is told
+pub told_at : (seen : Option (List ℕ)) (image : List ℕ) (P : List ℕ → Type 0) → seen ≡ Some image → IfTold seen P → P image
+told_at seen image P is h = subst (λ (s : Option (List ℕ)). IfTold s P) is h
+
+-- nothing waits for a sync
+one_image : (c d : List ℕ) (seen : Option (List ℕ)) → seen ≡ Some c → seen ≡ Some d → c ≡ d
+one_image c d seen is also = cc (is, also)
+
+pub settled : (disk : DiskState) → IsSynced disk → IsSettled disk
+settled disk synced c d may also = one_image c d disk.seen (synced c may) (synced d also)
+
+pub settled_after : (old new : DiskState) → IsSettled old → Loses Stands old new → IsSettled new
+settled_after old new h loss c d may also =
+    let a = loss.now c may in
+    let b = loss.now d also in
+    a.2 ∙ h a.0 b.0 a.1 b.1 ∙ sym b.2
+
+one_shown : {V : Type 0} (v w : V) → Shows v ≡ Shows w → v ≡ w
+one_shown v w e = cc e
+
+-- an image shows one view
+pub one_view : {V : Type 0} (M : Machine V) (image : List ℕ) (v w : V) → shows M image ≡ Shows v → shows M image ≡ Shows w → w ≡ v
+one_view M image v w is also = one_shown w v (sym also ∙ is)
+
+module _ {V : Type 0} (M : Machine V) where
+  locked_hides : (why : Locked) (image : List ℕ) → IsLocked M why image → shows M image ≡ Unreadable
+  locked_hides Locked.Lost image is = ap (λ (b : Option (ℕ × List ℕ)). opens M (spelled_boot M b)) is
+  locked_hides Locked.Unreadable image is = ap (λ (b : Option (ℕ × List ℕ)). opens M (spelled_boot M b)) is.1 ∙ is.2
+
+  -- an image that shows a view isn't locked, nor of another setup
+  pub not_locked : (why : Locked) (image : List ℕ) (v : V) → shows M image ≡ Shows v → IsLocked M why image → ⊥
+  not_locked why image v shown is = clash (sym (locked_hides why image is) ∙ shown)
+    where
+      clash : Unreadable ≡ Shows v → ⊥
+      clash e = cc e
+
+  pub not_foreign : (kept image : List ℕ) (v : V) → shows M image ≡ Shows v → shows M image ≡ Foreign kept → ⊥
+  not_foreign kept image v shown is = clash (sym is ∙ shown)
+    where
+      clash : Foreign kept ≡ Shows v → ⊥
+      clash e = cc e
+
+  pub closed_both : (N : Machine V) (v : V) (disk : DiskState) → N ≡ M → ((image : List ℕ) → disk.may_find image → IsInBoth N v image) → (image : List ℕ) → disk.may_find image → IsInBoth M v image
+  closed_both N v disk m both image may = subst (λ (O : Machine V). IsInBoth O v image) m (both image may)
+
+module _ {V : Type 0} (M : Machine V) (B : Blocks) where
+  -- both copies have the view
+  pub both_near : (v : V) (disk : DiskState) → ((image : List ℕ) → disk.may_find image → IsInBoth M v image) → ShowsNear M B v disk
+  both_near v disk both image may = (start_of M v, inl (holds_shows M v image (both image may)))
+
+  -- nothing was written
+  pub still_both : (v : V) (old new : DiskState) → ((image : List ℕ) → old.may_find image → IsInBoth M v image) → Loses Stands old new → (image : List ℕ) → new.may_find image → IsInBoth M v image
+  still_both v old new both loss image may =
+      let was = loss.now image may in
+      subst (IsInBoth M v) (sym was.2) (both was.0 was.1)
+
+  pub near_after : (v : V) (old new : DiskState) → ((image : List ℕ) → old.may_find image → IsInBoth M v image) → Loses Stands old new → ShowsNear M B v new
+  near_after v old new both loss = both_near v new (still_both v old new both loss)
+
+  -- what may be found after an opening of one image in which the disk failed
+  pub opening_near : (mid now : DiskState) (image : List ℕ) (v : V) → mid.seen ≡ Some image → IsSynced mid → shows M image ≡ Shows v → LeavesOnly mid now (IsOpening M B 0 mid) → ShowsNear M B v now
+  opening_near mid now image v seen synced shown leaves c may =
+      (start_of M v, by_moment (leaves.each c (now.counts_now mid.moment c leaves.later may)))
+    where
+      was : (d : List ℕ) → mid.may_find d → shows M d ≡ Shows v
+      was d found = ap (shows M) (one_image d image mid.seen (synced d found) seen) ∙ shown
+
+      shown_is : (u : V) → IfTold mid.seen (λ seen. shows M seen ≡ Shows u) → u ≡ v
+      shown_is u told = one_view M image v u shown (told_at mid.seen image (λ seen. shows M seen ≡ Shows u) seen told)
+
+      by_moment : IsOpening M B 0 mid c → ShowsEither M v (started M B 0 v) c
+      by_moment (inl kept) = inl (kept.2 ∙ was kept.0 kept.1)
+      by_moment (inr other) = subst (λ (u : V). ShowsEither M u (started M B 0 u) c) (shown_is other.0 other.1) other.2

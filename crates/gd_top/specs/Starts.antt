@@ -1,0 +1,15 @@
+-- What the power-ons find.
+use Rattle.std.specs.Prelude.{ℕ, List, map}
+use Rattle.gd_base.specs.Machine.{Machine}
+use Rattle.gd_cabinet.specs.Shown.{spelled_boot}
+use Rattle.gd_store.specs.Copy.{boots, found_in}
+use Rattle.gd_store.specs.declared.layout.TheConstants.{LAYOUT}
+use Rattle.gd_top.specs.State.{Start}
+
+-- what a power-on finds in an image: the two copies, and what is booted with what its payload spells
+abbrev pub start_in : {V : Type 0} → Machine V → List ℕ → Start V
+start_in M image = record { found = found_in LAYOUT image; boots = spelled_boot M (boots LAYOUT image) }
+
+-- image by image
+abbrev pub starts_in : {V : Type 0} → Machine V → List (List ℕ) → List (Start V)
+starts_in M images = map (start_in M) images
