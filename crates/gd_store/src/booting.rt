@@ -1,6 +1,7 @@
 // What a disk boots to, with the payload in a room.
 ghost use Rattle.std.specs.Prelude.{◌≡◌, true, OnOk, OnErr, Some, None};
 ghost use Rattle.gd_disk.specs.Disk.{IfTold, Stands, Answers, Rose};
+ghost use Rattle.gd_disk.specs.CutRuns.{RunOf};
 ghost use Rattle.gd_disk.specs.Runs.{LeavesOnly};
 ghost use Rattle.gd_store.specs.Copy.{stored_payload};
 ghost use Rattle.gd_store.specs.Choice.{spelled};
@@ -36,6 +37,7 @@ pub fn boot<D: Disk>(disk: &mut D, room: &mut Room) -> Booted
     ensures syncs { (D.state disk.new).syncs ≡ (D.state disk.old).syncs }
     ensures armed { (D.state disk.new).armed ≡ (D.state disk.old).armed }
     ensures fault { OnErr (outcome result) ((D.state disk.old).is_on ≡ true → Rose (D.state disk.old).faults (D.state disk.new).faults) }
+    ensures run { RunOf 0 (outcome result) (D.state disk.old) (D.state disk.new) }
 {
     match read_copies(disk, LAYOUT, &mut room.a, &mut room.b) {
         Err(Off) => Booted::Off,

@@ -1,6 +1,7 @@
 // The commit of a payload.
 ghost use Rattle.std.specs.Prelude.{◌≡◌, ◌⊎◌, ◌+◌, ◌*◌, ◌<◌, ◌^◌, length, OnOk, OnErr, true, false, Some};
 ghost use Rattle.gd_disk.specs.Disk.{IfTold, IsSynced, Answers};
+ghost use Rattle.gd_disk.specs.CutRuns.{RunOf};
 ghost use Rattle.gd_disk.specs.Runs.{LeavesOnly, CutsOfRun};
 ghost use Rattle.gd_store.specs.Copy.{HoldsBoth, LiesWithin, boots, copy_len};
 ghost use Rattle.gd_store.specs.Words.{store_disk, store_payload, store_sequence, store_stopped};
@@ -26,6 +27,7 @@ impl<D: Disk> Store<D> {
         ensures answer { Answers result (D.state (store_disk self.old)) (D.state (store_disk self.new)) }
         ensures syncs { MadeSyncs 6 result (D.state (store_disk self.old)) (D.state (store_disk self.new)) }
         ensures cuts { CutsOfRun 6 result (D.state (store_disk self.old)) (D.state (store_disk self.new)) }
+        ensures run { RunOf 6 result (D.state (store_disk self.old)) (D.state (store_disk self.new)) }
     {
         if self.is_stopped {
             self.disk.sync()?;
@@ -76,6 +78,7 @@ fn write_both<D: Disk>(
     ensures answer { Answers result (D.state disk.old) (D.state disk.new) }
     ensures syncs { MadeSyncs 6 result (D.state disk.old) (D.state disk.new) }
     ensures cuts { CutsOfRun 6 result (D.state disk.old) (D.state disk.new) }
+    ensures run { RunOf 6 result (D.state disk.old) (D.state disk.new) }
 {
     seal_body(layout, sequence + 1, payload, body);
     write_copy(disk, layout.a, OPEN, body)?;

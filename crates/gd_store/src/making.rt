@@ -1,6 +1,7 @@
 // The making of a memory.
 ghost use Rattle.std.specs.Prelude.{◌≡◌, ◌+◌, ◌*◌, ◌≤◌, length, slice_index, IfOk, OnOk};
 ghost use Rattle.gd_disk.specs.Disk.{IfTold, Stands, IsSynced, Answers};
+ghost use Rattle.gd_disk.specs.CutRuns.{RunOf};
 ghost use Rattle.gd_disk.specs.Runs.{LeavesOnly, CutsOfRun};
 ghost use Rattle.gd_store.specs.Copy.{HoldsBoth, LiesWithin, copy_len};
 ghost use Rattle.gd_store.specs.Words.{room_payload};
@@ -33,6 +34,7 @@ impl<D: Disk> Store<D> {
         ensures answer { Answers (made_outcome result) (D.state disk) (D.state (made_disk result)) }
         ensures syncs { MadeSyncs 5 (made_outcome result) (D.state disk) (D.state (made_disk result)) }
         ensures cuts { CutsOfRun 5 (made_outcome result) (D.state disk) (D.state (made_disk result)) }
+        ensures run { RunOf 5 (made_outcome result) (D.state disk) (D.state (made_disk result)) }
         ensures payload { room_payload (made_room result) ≡ room_payload room }
     {
         let mut disk = disk;
@@ -61,6 +63,7 @@ fn make_both<D: Disk>(
     ensures answer { Answers result (D.state disk.old) (D.state disk.new) }
     ensures syncs { MadeSyncs 5 result (D.state disk.old) (D.state disk.new) }
     ensures cuts { CutsOfRun 5 result (D.state disk.old) (D.state disk.new) }
+    ensures run { RunOf 5 result (D.state disk.old) (D.state disk.new) }
 {
     shut_both(disk, layout)?;
     seal_body(layout, 0, payload, body);
@@ -77,6 +80,7 @@ fn shut_both<D: Disk>(disk: &mut D, layout: Layout) -> Result<(), Off>
     ensures answer { Answers result (D.state disk.old) (D.state disk.new) }
     ensures syncs { MadeSyncs 1 result (D.state disk.old) (D.state disk.new) }
     ensures cuts { CutsOfRun 1 result (D.state disk.old) (D.state disk.new) }
+    ensures run { RunOf 1 result (D.state disk.old) (D.state disk.new) }
 {
     let gate_a = read_gate(disk, layout.a)?;
     let gate_b = read_gate(disk, layout.b)?;
@@ -94,6 +98,7 @@ fn read_gate<D: Disk>(disk: &mut D, at: u64) -> Result<u8, Off>
     ensures answer { Answers result (D.state disk.old) (D.state disk.new) }
     ensures syncs { (D.state disk.new).syncs ≡ (D.state disk.old).syncs }
     ensures cuts { CutsOfRun 0 result (D.state disk.old) (D.state disk.new) }
+    ensures run { RunOf 0 result (D.state disk.old) (D.state disk.new) }
 {
     let mut byte = [0];
     disk.read(at, &mut byte)?;

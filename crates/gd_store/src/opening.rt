@@ -1,6 +1,7 @@
 // The opening of a store.
 ghost use Rattle.std.specs.Prelude.{◌≡◌, ◌+◌, ◌<◌, OnErr, Some, None, true, false};
 ghost use Rattle.gd_disk.specs.Disk.{IfTold, Answers};
+ghost use Rattle.gd_disk.specs.CutRuns.{RunOf};
 ghost use Rattle.gd_disk.specs.Runs.{LeavesOnly, CutsLeft, CutOrFaultIn};
 ghost use Rattle.gd_store.specs.Copy.{boots};
 ghost use Rattle.gd_store.specs.Booting.{IsFound};
@@ -44,6 +45,7 @@ impl<D: Disk> Store<D> {
         ensures cuts { OnReady result (λ store found. CutsLeft (syncs_of_repair (repaired found)) (D.state disk).armed (D.state (store_disk store)).armed
             × ((D.state (store_disk store)).faults ≡ (D.state disk).faults)) }
         ensures cut { OnErr (outcome result) (IfTold (D.state disk).seen (λ image. (D.state disk).is_on ≡ true → CutOrFaultIn (repairs_of LAYOUT image) (D.state disk) (D.state (disk_in result)))) }
+        ensures run { IfTold (D.state disk).seen (λ image. RunOf (repairs_of LAYOUT image) (outcome result) (D.state disk) (D.state (disk_in result))) }
     {
         let mut disk = disk;
         let mut room = room;

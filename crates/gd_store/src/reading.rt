@@ -1,6 +1,7 @@
 // What a disk boots to.
 ghost use Rattle.std.specs.Prelude.{◌≡◌, OnErr, true, ◌≤◌, length, IfOk, OnOk, Some, None};
 ghost use Rattle.gd_disk.specs.Disk.{IfTold, Stands, Answers, Rose};
+ghost use Rattle.gd_disk.specs.CutRuns.{RunOf};
 ghost use Rattle.gd_disk.specs.Runs.{LeavesOnly};
 ghost use Rattle.gd_store.specs.Copy.{copy_len, header_start, state_of, lowest_bad, stored_sequence, copy_a, copy_b, chosen, LiesWithin, stored_payload};
 ghost use Rattle.gd_store.specs.Choice.{spelled};
@@ -129,6 +130,7 @@ pub(crate) fn read_copies<D: Disk>(
     ensures syncs { (D.state disk.new).syncs ≡ (D.state disk.old).syncs }
     ensures armed { (D.state disk.new).armed ≡ (D.state disk.old).armed }
     ensures fault { OnErr result ((D.state disk.old).is_on ≡ true → Rose (D.state disk.old).faults (D.state disk.new).faults) }
+    ensures run { RunOf 0 result (D.state disk.old) (D.state disk.new) }
 {
     disk.read(layout.a, a)?;
     disk.read(layout.b, b)?;

@@ -1,6 +1,7 @@
 // The repair of at most one copy.
 ghost use Rattle.std.specs.Prelude.{◌≡◌, ◌+◌, ◌*◌, length, OnOk, Some, slice_index, true};
 ghost use Rattle.gd_disk.specs.Disk.{IfTold, IsSynced, Answers};
+ghost use Rattle.gd_disk.specs.CutRuns.{RunOf};
 ghost use Rattle.gd_disk.specs.Runs.{LeavesOnly, CutsOfRun};
 ghost use Rattle.gd_store.specs.Copy.{IsCopy, HoldsBoth, LiesWithin, boots, copy_len, copy_a, copy_b};
 ghost use Rattle.gd_store.specs.Booting.{latest};
@@ -48,6 +49,7 @@ pub(crate) fn repair<D: Disk>(
     ensures answer { Answers result (D.state disk.old) (D.state disk.new) }
     ensures syncs { MadeSyncs (syncs_of_repair (repaired found)) result (D.state disk.old) (D.state disk.new) }
     ensures cuts { CutsOfRun (syncs_of_repair (repaired found)) result (D.state disk.old) (D.state disk.new) }
+    ensures run { RunOf (syncs_of_repair (repaired found)) result (D.state disk.old) (D.state disk.new) }
 {
     if !is_at(found.a, sequence) {
         let gate = a[0];
@@ -81,6 +83,7 @@ fn repair_a<D: Disk>(
     ensures answer { Answers result (D.state disk.old) (D.state disk.new) }
     ensures syncs { MadeSyncs 3 result (D.state disk.old) (D.state disk.new) }
     ensures cuts { CutsOfRun 3 result (D.state disk.old) (D.state disk.new) }
+    ensures run { RunOf 3 result (D.state disk.old) (D.state disk.new) }
 {
     seal_body(layout, sequence, payload, body);
     write_copy(disk, layout.a, gate, body)
@@ -107,6 +110,7 @@ fn repair_b<D: Disk>(
     ensures answer { Answers result (D.state disk.old) (D.state disk.new) }
     ensures syncs { MadeSyncs 3 result (D.state disk.old) (D.state disk.new) }
     ensures cuts { CutsOfRun 3 result (D.state disk.old) (D.state disk.new) }
+    ensures run { RunOf 3 result (D.state disk.old) (D.state disk.new) }
 {
     seal_body(layout, sequence, payload, body);
     write_copy(disk, layout.b, gate, body)
