@@ -6,6 +6,7 @@ ghost use Rattle.gd_disk.specs.Runs.{LeavesOnly};
 ghost use Rattle.gd_store.specs.Copy.{stored_payload};
 ghost use Rattle.gd_store.specs.Choice.{spelled};
 ghost use Rattle.gd_store.specs.Booting.{BootedAs, outcome, BootedCopies, IsLatest, with_payload};
+ghost use Rattle.gd_store.specs.Lost.{IsLost, IsLostWhere, LostFinds};
 ghost use Rattle.gd_store.specs.Words.{room_payload};
 ghost use Rattle.gd_store.specs.Writing.{From};
 
@@ -25,11 +26,14 @@ pub enum Booted {
 }
 
 /// Reads both copies, and writes nothing to the disk. At Ready the room holds the payload of the sound copy with
-/// the later sequence.
+/// the later sequence. Lost comes exactly where no copy is sound, or both are at one sequence with different payloads.
+/// Off comes where a read failed.
 pub fn boot<D: Disk>(disk: &mut D, room: &mut Room) -> Booted
     requires size { (D.state disk.old).size ≡ DISK_LEN }
     ensures what { IfTold (D.state disk.old).seen (BootedAs LAYOUT result (room_payload room.new)) }
     ensures copies { IfTold (D.state disk.old).seen (BootedCopies LAYOUT result room.new) }
+    ensures lost { IfTold (D.state disk.old).seen (λ image. IsLostWhere result (IsLost LAYOUT image)) }
+    ensures lost_states { LostFinds result }
     ensures latest { IsLatest result }
     ensures seen { OnOk (outcome result) ((D.state disk.new).seen ≡ (D.state disk.old).seen) }
     ensures any_moment { LeavesOnly (D.state disk.old) (D.state disk.new) (From (D.state disk.old) Stands) }

@@ -5,6 +5,7 @@ ghost use Rattle.gd_disk.specs.CutRuns.{RunOf};
 ghost use Rattle.gd_disk.specs.Runs.{LeavesOnly, CutsLeft, CutOrFaultIn};
 ghost use Rattle.gd_store.specs.Copy.{boots};
 ghost use Rattle.gd_store.specs.Booting.{IsFound};
+ghost use Rattle.gd_store.specs.Lost.{IsLost, OpensLostWhere};
 ghost use Rattle.gd_store.specs.Words.{store_disk, store_payload, store_sequence, store_stopped};
 ghost use Rattle.gd_store.specs.Writing.{KeepsBoot};
 ghost use Rattle.gd_store.specs.Opening.{repairs_of};
@@ -37,6 +38,7 @@ impl<D: Disk> Store<D> {
         ensures ready { OnReady result (λ store found. IfTold (D.state disk).seen (λ image.
             IsFound LAYOUT found image × (boots LAYOUT image ≡ Some (store_sequence store, store_payload store)))) }
         ensures lost { OnLost result (λ found. IfTold (D.state disk).seen (λ image. IsFound LAYOUT found image × (boots LAYOUT image ≡ None))) }
+        ensures lost_exactly { IfTold (D.state disk).seen (λ image. OpensLostWhere result (IsLost LAYOUT image)) }
         ensures any_moment { LeavesOnly (D.state disk) (D.state (disk_in result)) (KeepsBoot LAYOUT (D.state disk)) }
         ensures answer { Answers (outcome result) (D.state disk) (D.state (disk_in result)) }
         ensures repaired { OnReady result (λ store found. (D.state (store_disk store)).syncs ≡ (D.state disk).syncs + syncs_of_repair (repaired found)) }
