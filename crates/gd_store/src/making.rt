@@ -6,7 +6,7 @@ ghost use Rattle.gd_disk.specs.Runs.{LeavesOnly, CutsOfRun};
 ghost use Rattle.gd_store.specs.Copy.{HoldsBoth, LiesWithin, copy_len};
 ghost use Rattle.gd_store.specs.Words.{room_payload};
 ghost use Rattle.gd_store.specs.Writing.{AreShut, From, MadeSyncs};
-ghost use Rattle.gd_store.specs.Making.{made_disk, made_room, made_outcome, AreShutting, IsMaking};
+ghost use Rattle.gd_store.specs.Making.{made_disk, made_room, made_outcome, AreShutting, AreShuttingAny, IsMaking, IsMakingAny};
 
 use crate::sealing::seal_body;
 use crate::writing::{shut_open, write_shut};
@@ -24,13 +24,15 @@ pub enum Made<D: Disk> {
 
 impl<D: Disk> Store<D> {
     /// Writes the room's payload to both copies at sequence 0, whatever the disk has: shuts the gates that are open,
-    /// then writes and opens copy a, then copy b, by five syncs. The room keeps its payload. Where nothing waited for
-    /// a sync before, each copy is the old one, or shut, or the new one at each moment, and none is new beside an old one.
+    /// then writes and opens copy a, then copy b, by five syncs. The room keeps its payload. At each moment each copy
+    /// is the old one, or shut, or the new one, and none is new beside an old one. Where writes waited for a sync before,
+    /// a gate that they opened may be found open over the old copy until the first of the five.
     pub fn make(disk: D, room: Room) -> Made<D>
         requires size { (D.state disk).size ≡ DISK_LEN }
         ensures done { OnOk (made_outcome result) (IfTold (D.state (made_disk result)).seen (HoldsBoth LAYOUT 0 (room_payload room))) }
         ensures synced { OnOk (made_outcome result) (IsSynced (D.state (made_disk result))) }
         ensures any_moment { IsSynced (D.state disk) → LeavesOnly (D.state disk) (D.state (made_disk result)) (From (D.state disk) (IsMaking LAYOUT (room_payload room))) }
+        ensures waiting { LeavesOnly (D.state disk) (D.state (made_disk result)) (From (D.state disk) (IsMakingAny LAYOUT (room_payload room) (D.state disk).seen)) }
         ensures answer { Answers (made_outcome result) (D.state disk) (D.state (made_disk result)) }
         ensures syncs { MadeSyncs 5 (made_outcome result) (D.state disk) (D.state (made_disk result)) }
         ensures cuts { CutsOfRun 5 (made_outcome result) (D.state disk) (D.state (made_disk result)) }
@@ -60,6 +62,7 @@ fn make_both<D: Disk>(
     ensures holds { OnOk result (IfTold (D.state disk.new).seen (HoldsBoth layout 0 payload.now)) }
     ensures synced { OnOk result (IsSynced (D.state disk.new)) }
     ensures any_moment { IsSynced (D.state disk.old) → LeavesOnly (D.state disk.old) (D.state disk.new) (From (D.state disk.old) (IsMaking layout payload.now)) }
+    ensures waiting { LeavesOnly (D.state disk.old) (D.state disk.new) (From (D.state disk.old) (IsMakingAny layout payload.now (D.state disk.old).seen)) }
     ensures answer { Answers result (D.state disk.old) (D.state disk.new) }
     ensures syncs { MadeSyncs 5 result (D.state disk.old) (D.state disk.new) }
     ensures cuts { CutsOfRun 5 result (D.state disk.old) (D.state disk.new) }
@@ -77,6 +80,7 @@ fn shut_both<D: Disk>(disk: &mut D, layout: Layout) -> Result<(), Off>
     ensures shut { OnOk result (IfTold (D.state disk.new).seen (AreShut layout)) }
     ensures synced { OnOk result (IsSynced (D.state disk.new)) }
     ensures any_moment { IsSynced (D.state disk.old) → LeavesOnly (D.state disk.old) (D.state disk.new) (From (D.state disk.old) (AreShutting layout)) }
+    ensures waiting { LeavesOnly (D.state disk.old) (D.state disk.new) (From (D.state disk.old) (AreShuttingAny layout (D.state disk.old).seen)) }
     ensures answer { Answers result (D.state disk.old) (D.state disk.new) }
     ensures syncs { MadeSyncs 1 result (D.state disk.old) (D.state disk.new) }
     ensures cuts { CutsOfRun 1 result (D.state disk.old) (D.state disk.new) }
