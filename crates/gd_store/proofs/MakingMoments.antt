@@ -13,6 +13,7 @@ use Rattle.gd_store.proofs.Boots.{carries, new_a, new_b, len_new, written_a}
 use Rattle.gd_store.proofs.Commit.{told_written}
 use Rattle.gd_store.proofs.CopyMoments.{shutting, told}
 use Rattle.gd_store.proofs.Images.{first_of, part_before, part_behind}
+use Rattle.gd_disk.specs.declared.lengths.TheConstants.{PAGE_LEN}
 
 -- a gate that held this byte, after it was written over where it was open
 shut_or_same : (at gate : ℕ) (d c : List ℕ) → at < length d → get_or d at 0 ≡ gate → IsOverOpen at gate d c → IsShut at c ⊎ (c ≡ d)
@@ -98,7 +99,7 @@ module _ (l : Layout) (old : DiskState) (within : LiesWithin l old.size) (synced
             (told old (λ image. get_or image l.a 0 ≡ gate_a) back.0 synced back.1 is_a) (told old (λ image. get_or image l.b 0 ≡ gate_b) back.0 synced back.1 is_b) back.2 from.2,
       ))
 
-module _ (l : Layout) (p copy : List ℕ) (long : length p ≡ 512 * l.pages) (is_copy : copy ≡ sealed l 0 p) (apart : l.a + copy_len l.pages ≤ l.b) where
+module _ (l : Layout) (p copy : List ℕ) (long : length p ≡ PAGE_LEN * l.pages) (is_copy : copy ≡ sealed l 0 p) (apart : l.a + copy_len l.pages ≤ l.b) where
   zero_range : 0 < 2 ^ 64
   zero_range = omega arith
 

@@ -12,7 +12,7 @@ ghost use Rattle.gd_store.specs.Writing.{From};
 
 use crate::reading::{Choice, read_copies};
 use crate::{Found, LAYOUT, Room};
-use gd_disk::{DISK_LEN, Disk, Off};
+use gd_disk::{DIGEST_LEN, DISK_LEN, Disk, FRAME_LEN, Off};
 
 /// What a boot answers.
 #[derive(Clone, Copy, Debug, PartialEq, Eq, Drop)]
@@ -64,7 +64,7 @@ fn take_payload(room: &mut Room, choice: Choice) -> Option<u64>
     ensures a { room.new.a.items ≡ room.old.a.items }
     ensures b { room.new.b.items ≡ room.old.b.items }
 {
-    let first = 49 + 32 * LAYOUT.pages as usize;
+    let first = FRAME_LEN + DIGEST_LEN * LAYOUT.pages as usize;
     match choice {
         Choice::CopyA(sequence) => {
             room.payload.copy_from_slice(&room.a[first..]);

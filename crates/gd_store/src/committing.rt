@@ -66,8 +66,8 @@ fn write_both<D: Disk>(
     body: &mut [u8],
 ) -> Result<(), Off>
     requires within { LiesWithin layout (D.state disk.old).size }
-    requires kept { length kept.now ≡ 512 * layout.pages }
-    requires length { length payload.now ≡ 512 * layout.pages }
+    requires kept { length kept.now ≡ PAGE_LEN * layout.pages }
+    requires length { length payload.now ≡ PAGE_LEN * layout.pages }
     requires body { length body.old + 1 ≡ copy_len layout.pages }
     requires sequence { sequence < 2 ^ 36 }
     requires synced { IsSynced (D.state disk.old) }

@@ -11,7 +11,7 @@ ghost use Rattle.gd_store.specs.Making.{made_disk, made_room, made_outcome, AreS
 use crate::sealing::seal_body;
 use crate::writing::{shut_open, write_shut};
 use crate::{LAYOUT, Layout, Room, Store};
-use gd_disk::{DISK_LEN, Disk, Off};
+use gd_disk::{DISK_LEN, Disk, Off, PAGE_LEN};
 
 /// What the making of a memory answers.
 #[derive(Drop)]
@@ -57,7 +57,7 @@ fn make_both<D: Disk>(
     body: &mut [u8],
 ) -> Result<(), Off>
     requires within { LiesWithin layout (D.state disk.old).size }
-    requires payload { length payload.now ≡ 512 * layout.pages }
+    requires payload { length payload.now ≡ PAGE_LEN * layout.pages }
     requires body { length body.old + 1 ≡ copy_len layout.pages }
     ensures holds { OnOk result (IfTold (D.state disk.new).seen (HoldsBoth layout 0 payload.now)) }
     ensures synced { OnOk result (IsSynced (D.state disk.new)) }

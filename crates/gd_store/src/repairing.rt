@@ -12,7 +12,7 @@ ghost use Rattle.gd_store.specs.Repair.{repaired, syncs_of_repair};
 use crate::sealing::seal_body;
 use crate::writing::write_copy;
 use crate::{CopyState, Found, Layout};
-use gd_disk::{Disk, Off};
+use gd_disk::{Disk, Off, PAGE_LEN};
 
 // Sound at this sequence.
 fn is_at(state: CopyState, sequence: u64) -> bool
@@ -38,7 +38,7 @@ pub(crate) fn repair<D: Disk>(
     requires within { LiesWithin layout (D.state disk.old).size }
     requires on { (D.state disk.old).is_on ≡ true }
     requires synced { IsSynced (D.state disk.old) }
-    requires payload { length payload.now ≡ 512 * layout.pages }
+    requires payload { length payload.now ≡ PAGE_LEN * layout.pages }
     requires a_len { length a.old ≡ copy_len layout.pages }
     requires b_len { length b.old ≡ copy_len layout.pages }
     requires read { IfTold (D.state disk.old).seen (IsRead layout found sequence payload.now a.old b.old) }
@@ -74,7 +74,7 @@ fn repair_a<D: Disk>(
     requires within { LiesWithin layout (D.state disk.old).size }
     requires synced { IsSynced (D.state disk.old) }
     requires gate { IfTold (D.state disk.old).seen (λ image. slice_index image layout.a ≡ gate) }
-    requires payload { length payload.now ≡ 512 * layout.pages }
+    requires payload { length payload.now ≡ PAGE_LEN * layout.pages }
     requires body { length body.old + 1 ≡ copy_len layout.pages }
     requires booted { IfTold (D.state disk.old).seen (λ image. IsCopy layout sequence payload.now (copy_b layout image) × (boots layout image ≡ Some (sequence, payload.now))) }
     ensures holds { OnOk result (IfTold (D.state disk.new).seen (HoldsBoth layout sequence payload.now)) }
@@ -101,7 +101,7 @@ fn repair_b<D: Disk>(
     requires within { LiesWithin layout (D.state disk.old).size }
     requires synced { IsSynced (D.state disk.old) }
     requires gate { IfTold (D.state disk.old).seen (λ image. slice_index image layout.b ≡ gate) }
-    requires payload { length payload.now ≡ 512 * layout.pages }
+    requires payload { length payload.now ≡ PAGE_LEN * layout.pages }
     requires body { length body.old + 1 ≡ copy_len layout.pages }
     requires booted { IfTold (D.state disk.old).seen (λ image. IsCopy layout sequence payload.now (copy_a layout image) × (boots layout image ≡ Some (sequence, payload.now))) }
     ensures holds { OnOk result (IfTold (D.state disk.new).seen (HoldsBoth layout sequence payload.now)) }

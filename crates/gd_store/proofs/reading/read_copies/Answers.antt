@@ -3,12 +3,13 @@ use Rattle.gd_store.specs.Copy.{chosen, stored_payload, copy_len}
 use Rattle.gd_store.specs.Choice.{spelled}
 use Rattle.gd_store.proofs.Pages.{slice_payload}
 use Rattle.gd_disk.proofs.WholeRuns.{of_read, run_on, run_fails, run_gives}
+use Rattle.gd_disk.specs.declared.lengths.TheConstants.{DIGEST_LEN, FRAME_LEN}
 use Rattle.gd_store.proofs.reading.read_copies.Goals as goal
 
 pub returns-clause-choice : goal.returns-clause-choice
 returns-clause-choice g c =
     let l = c.args.layout in
-    let first = 49 + 32 * l.pages in
+    let first = FRAME_LEN + DIGEST_LEN * l.pages in
     let a = c.read.new.into in
     let b = c.read-2.new.into in
     let s = c.state-state_a.result in
