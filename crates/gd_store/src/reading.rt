@@ -8,7 +8,7 @@ ghost use Rattle.gd_store.specs.Choice.{spelled};
 ghost use Rattle.gd_store.specs.Writing.{From};
 
 use crate::{CopyState, Layout, Why};
-use gd_disk::{DIGESTS_AT, DIGEST_LEN, Disk, FRAME_LEN, Off, PAGE_LEN};
+use gd_disk::{DIGEST_LEN, DIGESTS_AT, Disk, FRAME_LEN, Off, PAGE_LEN};
 use sha2::{Digest, Sha256};
 
 // The name, the version and the page count with which a header begins.

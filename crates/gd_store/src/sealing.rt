@@ -3,8 +3,8 @@ ghost use Rattle.std.specs.Prelude.{◌≡◌, ◌+◌, ◌*◌, ◌++◌, lengt
 ghost use Rattle.std.specs.Int.{w64, to_be_bytes};
 ghost use Rattle.gd_store.specs.Copy.{body_of, copy_len, header_start, digests};
 
-use gd_disk::{DIGEST_LEN, HEADER_LEN, PAGE_LEN};
 use crate::Layout;
+use gd_disk::{DIGEST_LEN, HEADER_LEN, PAGE_LEN};
 use sha2::{Digest, Sha256};
 
 // The name, the version, the page count and the sequence.
