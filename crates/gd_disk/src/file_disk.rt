@@ -36,12 +36,14 @@ fn opened(files: &impl Files<File = File>, path: &str) -> Option<File> {
 }
 
 impl FileDisk {
+    ghost use Rattle.gd_disk.specs.Disk.{IsSynced};
     ghost use Rattle.gd_disk.specs.Untold.{file_state, HasDoneNothing};
 
     /// The disk over the file at this path, for reading and writing. It shows as a disk of `DISK_LEN` bytes that is off
     /// where the file can't be opened or has another length: then each call fails.
     pub fn at(files: &impl Files<File = File>, path: &str) -> FileDisk
-        ensures { HasDoneNothing (file_state result) }
+        ensures fresh { HasDoneNothing (file_state result) }
+        ensures synced { IsSynced (file_state result) }
     {
         FileDisk::over(opened(files, path))
     }
