@@ -1,8 +1,8 @@
 -- How the record of a run of calls is got, and how one run goes on after another.
-use Rattle.std.proofs.Common.{◌≡◌, ◌⊎◌, inl, inr, ⊎_elim, ℕ, ◌+◌, ◌<◌, ◌≤◌, List, [], ◌∷◌, Result, Ok, Err, refl, sym, ◌∙◌, ap, subst, arith, Bool, true, false, OnOk, OnErr, is_err}
+use Rattle.std.proofs.Common.{◌≡◌, ◌⊎◌, inl, inr, ⊎_elim, ℕ, ◌+◌, ◌<◌, ◌≤◌, List, [], ◌∷◌, length, Result, Ok, Err, refl, sym, ◌∙◌, ap, subst, arith, Bool, true, false, OnOk, OnErr, is_err}
 use Rattle.std.proofs.lemmas.Bool.{cases_lt}
-use Rattle.gd_disk.specs.Disk.{DiskState, IsCut, CutOrFault, CountsCuts, Answers, Rose}
-use Rattle.gd_disk.specs.Runs.{IsLeft, CutsLeft}
+use Rattle.gd_disk.specs.Disk.{DiskState, IsCut, CountsCuts, Answers, Rose, used_up}
+use Rattle.gd_disk.specs.Runs.{IsLeft, CutsLeft, IsWithin, CanMeet}
 use Rattle.gd_disk.specs.CutRuns.{IsWhole, ComesBehind, FirstComes, IsCutOff, IsFaulted, WasOff, RunOf}
 use Rattle.gd_disk.proofs.Cuts.{no_call, after_write, after_sync, left_then, used_then}
 use Rattle.gd_disk.specs.declared.disk.CutUnit.{CutUnit}
@@ -162,3 +162,40 @@ whole_run n x old new was whole = record { whole = whole; failed = tt; was_off =
 -- of a run with no call, whose number of syncs comes to none
 pub no_syncs : {T E : Type 0} (n : ℕ) (x : T) (disk : DiskState) → n ≡ 0 → RunOf {T = T} {E = E} n (Ok x) disk disk
 no_syncs {T} {E} n x disk none = subst (λ (k : ℕ). RunOf {T = T} {E = E} k (Ok x) disk disk) (sym none) (no_run x disk)
+
+-- ---- for a caller that tells a cut from a fault by how many cuts are armed
+
+meets_unit : (done syncs : ℕ) (u : CutUnit) (n : ℕ) → ComesBehind done syncs u n → IsWithin syncs u n
+meets_unit done syncs Call n came = tt
+meets_unit done syncs Sync n came = omega (arith, came.0, came.1)
+
+meets : (done syncs : ℕ) (armed : List ArmedCut) → FirstComes done syncs armed → CanMeet syncs armed
+meets done syncs [] came = came
+meets done syncs (cut ∷ later) came = meets_unit done syncs cut.unit cut.count came
+
+-- the cut that came is one that the run can meet
+pub cut_met : (syncs : ℕ) (old new : DiskState) → IsCutOff syncs old new → CanMeet syncs old.armed
+cut_met syncs old new cut = meets cut.done syncs old.armed cut.came
+
+one_more : (done syncs : ℕ) (armed : List ArmedCut) → FirstComes done syncs armed → length armed ≡ length (used_up armed) + 1
+one_more done syncs [] came = absurd came
+one_more done syncs (cut ∷ later) came = omega arith
+
+-- a cut leaves one less, and a fault as many
+pub cut_lowers : (syncs : ℕ) (old new : DiskState) → IsCutOff syncs old new → length old.armed ≡ length new.armed + 1
+cut_lowers syncs old new cut = one_more cut.done syncs old.armed cut.came ∙ ap (λ (l : List ArmedCut). length l + 1) (sym cut.used)
+
+as_many : (syncs : ℕ) (old new : List ArmedCut) → CutsLeft syncs old new → length new ≡ length old
+as_many syncs [] new left = ap length left
+as_many syncs (cut ∷ later) new left = ap length left.1
+
+pub fault_keeps : (syncs : ℕ) (old new : DiskState) → IsFaulted syncs old new → length new.armed ≡ length old.armed
+fault_keeps syncs old new fault = as_many fault.done old.armed new.armed fault.left
+
+-- a run that failed with the power on was cut where fewer cuts are armed after it
+pub was_cut : {T E : Type 0} (syncs : ℕ) (e : E) (old new : DiskState) → RunOf {T = T} syncs (Err e) old new → old.is_on ≡ true → length new.armed < length old.armed → IsCutOff syncs old new
+was_cut syncs e old new run on fewer = ⊎_elim (λ cut. cut) (λ fault. let same : length new.armed ≡ length old.armed = fault_keeps syncs old new fault in absurd (omega (arith, same, fewer))) (run.failed on)
+
+-- and else it had a fault
+pub was_fault : {T E : Type 0} (syncs : ℕ) (e : E) (old new : DiskState) → RunOf {T = T} syncs (Err e) old new → old.is_on ≡ true → length old.armed ≤ length new.armed → IsFaulted syncs old new
+was_fault syncs e old new run on no_fewer = ⊎_elim (λ cut. let less : length old.armed ≡ length new.armed + 1 = cut_lowers syncs old new cut in absurd (omega (arith, less, no_fewer))) (λ fault. fault) (run.failed on)
