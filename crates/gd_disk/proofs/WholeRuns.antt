@@ -1,9 +1,9 @@
 -- How the record of a run of calls is got, and how one run goes on after another.
-use Rattle.std.proofs.Common.{◌≡◌, ◌⊎◌, inl, inr, ⊎_elim, ℕ, ◌+◌, ◌<◌, ◌≤◌, List, [], ◌∷◌, length, Result, Ok, Err, refl, sym, ◌∙◌, ap, subst, arith, Bool, true, false, OnOk, OnErr, is_err}
+use Rattle.std.proofs.Common.{◌≡◌, ◌⊎◌, inl, inr, ⊎_elim, ℕ, ◌+◌, ◌<◌, ◌≤◌, List, [], ◌∷◌, length, Result, Ok, Err, refl, sym, ◌∙◌, ap, subst, arith, true, false, OnOk, OnErr, is_err}
 use Rattle.std.proofs.lemmas.Bool.{cases_lt}
 use Rattle.gd_disk.specs.Disk.{DiskState, IsCut, CountsCuts, Answers, Rose, used_up}
 use Rattle.gd_disk.specs.Runs.{IsLeft, CutsLeft, IsWithin, CanMeet}
-use Rattle.gd_disk.specs.CutRuns.{IsWhole, ComesBehind, FirstComes, IsCutOff, IsFaulted, WasOff, RunOf}
+use Rattle.gd_disk.specs.CutRuns.{IsWhole, ComesBehind, FirstComes, IsCutOff, IsFaulted, RunOf}
 use Rattle.gd_disk.proofs.Cuts.{no_call, after_write, after_sync, left_then, used_then}
 use Rattle.gd_disk.specs.declared.disk.CutUnit.{CutUnit}
 use Rattle.gd_disk.specs.declared.disk.CutUnit.TheVariants.{Call, Sync}
@@ -154,6 +154,10 @@ run_gives n x y old new run = record { whole = run.whole; failed = tt; was_off =
 
 pub whole_then : (j k : ℕ) (old mid new : DiskState) → IsWhole j old mid → IsWhole k mid new → IsWhole (j + k) old new
 whole_then j k old mid new first second = record { made = omega (arith, first.made, second.made); left = left_then j k old.armed mid.armed new.armed first.left second.left; no_fault = second.no_fault ∙ first.no_fault }
+
+-- calls that make no sync, and then a whole run
+pub after_none : (k : ℕ) (old mid new : DiskState) → IsWhole 0 old mid → IsWhole k mid new → IsWhole k old new
+after_none k old mid new first second = subst (λ (n : ℕ). IsWhole n old new) (omega arith) (whole_then 0 k old mid new first second)
 
 -- a whole run that began with the power on
 pub whole_run : {T E : Type 0} (n : ℕ) (x : T) (old new : DiskState) → old.is_on ≡ true → IsWhole n old new → RunOf {T = T} {E = E} n (Ok x) old new

@@ -1,5 +1,5 @@
 -- What a run of several calls leaves of the syncs, the armed cuts and the faults, for cuts of both units.
-use Rattle.std.specs.Prelude.{◌≡◌, ◌⊎◌, ℕ, ◌+◌, ◌<◌, ◌≤◌, max, Bool, true, false, List, [], ◌∷◌, Result, OnOk, OnErr}
+use Rattle.std.specs.Prelude.{◌≡◌, ◌⊎◌, ℕ, ◌+◌, ◌<◌, ◌≤◌, max, true, false, List, [], ◌∷◌, Result, OnOk, OnErr}
 use Rattle.gd_disk.specs.Disk.{DiskState, Rose, used_up}
 use Rattle.gd_disk.specs.Runs.{CutsLeft}
 use Rattle.gd_disk.specs.declared.disk.CutUnit.{CutUnit}

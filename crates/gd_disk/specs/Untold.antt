@@ -1,5 +1,5 @@
 -- What a disk over a file means: it tells no content.
-use Rattle.std.specs.Prelude.{◌≡◌, ℕ, Bool, List, [], length, Option, Some, None}
+use Rattle.std.specs.Prelude.{◌≡◌, ℕ, List, [], length, Option, Some, None}
 use Rattle.std.proofs.Common.{subst}
 use Rattle.gd_disk.specs.Disk.{DiskState}
 use Rattle.gd_disk.specs.declared.lengths.TheConstants.{DISK_LEN}

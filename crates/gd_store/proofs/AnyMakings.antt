@@ -1,5 +1,5 @@
 -- What each moment of a making leaves over a disk where writes wait for a sync.
-use Rattle.std.proofs.Common.{◌≡◌, ◌⊎◌, inl, inr, ⊎_elim, ℕ, zero, suc, ◌+◌, ◌<◌, ◌≤◌, ◌∷◌, List, length, take, drop, get_or, sym, ◌∙◌, ap, subst, arith, Option, Some, None, refl}
+use Rattle.std.proofs.Common.{◌≡◌, ◌⊎◌, inl, inr, ⊎_elim, ℕ, zero, suc, ◌+◌, ◌<◌, ◌≤◌, ◌∷◌, List, length, take, drop, get_or, sym, ◌∙◌, ap, subst, arith, Option, Some, None}
 use Rattle.std.proofs.lemmas.Bool.{cases_eq, cases_lt}
 use Rattle.std.proofs.lemmas.List.{get_or_past}
 use Rattle.gd_disk.specs.Disk.{DiskState, IfTold, Stands, Torn}

@@ -10,7 +10,7 @@ ghost use Rattle.gd_store.specs.Words.{store_disk, store_payload, store_sequence
 ghost use Rattle.gd_store.specs.Writing.{KeepsBoot};
 ghost use Rattle.gd_store.specs.Opening.{repairs_of};
 ghost use Rattle.gd_store.specs.Repair.{repaired, syncs_of_repair};
-ghost use Rattle.gd_store.specs.Opened.{disk_in, outcome, OnReady, OnLost, IsOpenable};
+ghost use Rattle.gd_store.specs.Opened.{disk_in, outcome, OnReady, OnLost, IsOpenable, OpeningRun};
 
 use crate::booting::{Booted, boot};
 use crate::repairing::repair;
@@ -47,6 +47,7 @@ impl<D: Disk> Store<D> {
         ensures cuts { OnReady result (λ store found. CutsLeft (syncs_of_repair (repaired found)) (D.state disk).armed (D.state (store_disk store)).armed
             × ((D.state (store_disk store)).faults ≡ (D.state disk).faults)) }
         ensures cut { OnErr (outcome result) (IfTold (D.state disk).seen (λ image. (D.state disk).is_on ≡ true → CutOrFaultIn (repairs_of LAYOUT image) (D.state disk) (D.state (disk_in result)))) }
+        ensures answer_run { OpeningRun result (D.state disk) (D.state (disk_in result)) }
         ensures run { IfTold (D.state disk).seen (λ image. RunOf (repairs_of LAYOUT image) (outcome result) (D.state disk) (D.state (disk_in result))) }
     {
         let mut disk = disk;
