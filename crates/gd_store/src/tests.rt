@@ -396,54 +396,71 @@ fn left_by_making(call: u32, torn: u8) -> Found {
     }
 }
 
-// Such a cut, by calls or by syncs, and the call that it comes at, where the first sync is call `first`.
-fn cut_at(step: u32, torn: u8, first: u32) -> (Cut, u32) {
-    if step < 20 {
-        let cut = Cut {
-            unit: CutUnit::Call,
-            count: step,
-            torn,
-        };
-        return (cut, step);
-    }
-    let count = step - 20;
-    let cut = Cut {
-        unit: CutUnit::Sync,
-        count,
+// A cut at call `call`, and one at sync `sync`.
+fn by_calls(call: u32, torn: u8) -> Cut {
+    Cut {
+        unit: CutUnit::Call,
+        count: call,
         torn,
-    };
-    (
-        cut,
-        count
-            .saturating_mul(2)
-            .saturating_add(first)
-            .saturating_sub(2),
-    )
+    }
+}
+
+fn by_syncs(sync: u32, torn: u8) -> Cut {
+    Cut {
+        unit: CutUnit::Sync,
+        count: sync,
+        torn,
+    }
 }
 
 #[test]
-fn a_cut_in_a_commit(rt: HostRuntime) -> Result<(), Fail> {
+fn a_cut_at_each_call_of_a_commit(rt: HostRuntime) -> Result<(), Fail> {
     for torn in 0..4 {
-        for step in (1..14).chain(21..27) {
+        for call in 1..14 {
             let lab = MemoryLab::new(rt.alloc(), DISK_LEN)?;
-            let (cut, call) = cut_at(step, torn, 2);
-            let (is_done, found) = commit_under(&rt, rt.alloc(), lab, cut)?;
-            assert_eq!(rt; is_done, call == 13, "{cut:?}");
-            assert_eq!(rt; found, left_by_commit(call, torn), "{cut:?}");
+            let (is_done, found) = commit_under(&rt, rt.alloc(), lab, by_calls(call, torn))?;
+            assert_eq!(rt; is_done, call == 13, "{call} {torn}");
+            assert_eq!(rt; found, left_by_commit(call, torn), "{call} {torn}");
+        }
+    }
+    Ok(())
+}
+
+// The syncs of a commit are each second call of it.
+#[test]
+fn a_cut_at_each_sync_of_a_commit(rt: HostRuntime) -> Result<(), Fail> {
+    for torn in 0..4 {
+        for (sync, call) in [(1, 2), (2, 4), (3, 6), (4, 8), (5, 10), (6, 12)] {
+            let lab = MemoryLab::new(rt.alloc(), DISK_LEN)?;
+            let (is_done, found) = commit_under(&rt, rt.alloc(), lab, by_syncs(sync, torn))?;
+            assert!(rt; !is_done, "{sync} {torn}");
+            assert_eq!(rt; found, left_by_commit(call, torn), "{sync} {torn}");
         }
     }
     Ok(())
 }
 
 #[test]
-fn a_cut_in_a_making(rt: HostRuntime) -> Result<(), Fail> {
+fn a_cut_at_each_call_of_a_making(rt: HostRuntime) -> Result<(), Fail> {
     for torn in 0..4 {
-        for step in (1..13).chain(21..26) {
+        for call in 1..13 {
             let lab = MemoryLab::new(rt.alloc(), DISK_LEN)?;
-            let (cut, call) = cut_at(step, torn, 3);
-            let (is_done, found) = make_under(&rt, rt.alloc(), lab, cut)?;
-            assert_eq!(rt; is_done, call == 12, "{cut:?}");
-            assert_eq!(rt; found, left_by_making(call, torn), "{cut:?}");
+            let (is_done, found) = make_under(&rt, rt.alloc(), lab, by_calls(call, torn))?;
+            assert_eq!(rt; is_done, call == 12, "{call} {torn}");
+            assert_eq!(rt; found, left_by_making(call, torn), "{call} {torn}");
+        }
+    }
+    Ok(())
+}
+
+#[test]
+fn a_cut_at_each_sync_of_a_making(rt: HostRuntime) -> Result<(), Fail> {
+    for torn in 0..4 {
+        for (sync, call) in [(1, 3), (2, 5), (3, 7), (4, 9), (5, 11)] {
+            let lab = MemoryLab::new(rt.alloc(), DISK_LEN)?;
+            let (is_done, found) = make_under(&rt, rt.alloc(), lab, by_syncs(sync, torn))?;
+            assert!(rt; !is_done, "{sync} {torn}");
+            assert_eq!(rt; found, left_by_making(call, torn), "{sync} {torn}");
         }
     }
     Ok(())
@@ -453,22 +470,57 @@ fn a_cut_in_a_making(rt: HostRuntime) -> Result<(), Fail> {
 const PAGE_3: u64 = 1073 + 3 * PAGE_LEN as u64;
 
 #[test]
-fn a_cut_in_a_repair(rt: HostRuntime) -> Result<(), Fail> {
+fn a_cut_in_a_repair_of_copy_a(rt: HostRuntime) -> Result<(), Fail> {
     let (bad, sound) = (CopyState::Bad(Why::BadPage(3)), CopyState::Sound(1));
     for torn in 0..4 {
-        for step in (1..8).chain(21..24) {
-            let (cut, call) = cut_at(step, torn, 2);
-            let left = written(call, torn, bad, sound);
+        for call in 1..8 {
             let lab = MemoryLab::new(rt.alloc(), DISK_LEN)?;
+            let cut = by_calls(call, torn);
             let (is_done, found) = open_under(&rt, rt.alloc(), lab, cut, PAGE_3)?;
-            assert_eq!(rt; is_done, call == 7, "{cut:?}");
-            assert_eq!(rt; found, Found { a: left, b: sound }, "{cut:?}");
-            let lab = MemoryLab::new(rt.alloc(), DISK_LEN)?;
-            let at = COPY_LEN as u64 + PAGE_3;
-            let (_is_done, found) = open_under(&rt, rt.alloc(), lab, cut, at)?;
-            assert_eq!(rt; found, Found { a: sound, b: left }, "{cut:?}");
+            let a = written(call, torn, bad, sound);
+            assert_eq!(rt; is_done, call == 7, "{call} {torn}");
+            assert_eq!(rt; found, Found { a, b: sound }, "{call} {torn}");
         }
     }
+    Ok(())
+}
+
+#[test]
+fn a_cut_in_a_repair_of_copy_b(rt: HostRuntime) -> Result<(), Fail> {
+    let (bad, sound) = (CopyState::Bad(Why::BadPage(3)), CopyState::Sound(1));
+    let at = COPY_LEN as u64 + PAGE_3;
+    for torn in 0..4 {
+        for (sync, call) in [(1, 2), (2, 4), (3, 6), (4, 7)] {
+            let lab = MemoryLab::new(rt.alloc(), DISK_LEN)?;
+            let cut = by_syncs(sync, torn);
+            let (is_done, found) = open_under(&rt, rt.alloc(), lab, cut, at)?;
+            let b = written(call, torn, bad, sound);
+            assert_eq!(rt; is_done, call == 7, "{sync} {torn}");
+            assert_eq!(rt; found, Found { a: sound, b }, "{sync} {torn}");
+        }
+    }
+    Ok(())
+}
+
+// Arms a cut through a store, and commits: whether it succeeds, and how many cuts are armed before and after it.
+fn cut_in_a_store<L: LabDisk + Drop>(
+    rt: &impl Abort,
+    alloc: Global,
+    lab: L,
+) -> Result<(bool, u32, u32), Fail> {
+    let (lab, room) = made(rt, lab, Room::new(alloc)?)?;
+    let (mut store, _found) = opened(rt, lab, room)?;
+    assert!(rt; store.cuts_armed() < 256);
+    store.arm(CutUnit::Sync, 6, 1);
+    let before = store.cuts_armed();
+    let is_done = commit(rt, &mut store, &payload(alloc, 1)?);
+    Ok((is_done, before, store.cuts_armed()))
+}
+
+#[test]
+fn a_cut_armed_through_a_store(rt: HostRuntime) -> Result<(), Fail> {
+    let lab = MemoryLab::new(rt.alloc(), DISK_LEN)?;
+    assert_eq!(rt; cut_in_a_store(&rt, rt.alloc(), lab)?, (false, 1, 0));
     Ok(())
 }
 
