@@ -1,13 +1,28 @@
 //! The lengths of a disk that holds the memory's image. docs/FORMATS.md has the layout.
 
+/// Bytes in the gate of a copy.
+pub const GATE_LEN: usize = 1;
+
+/// Bytes in the header of a copy, which stands behind its gate.
+pub const HEADER_LEN: usize = 16;
+
+/// Bytes in a digest: that of a page, and the seal.
+pub const DIGEST_LEN: usize = 32;
+
 /// Bytes in a page of a copy's payload.
 pub const PAGE_LEN: usize = 512;
 
 /// Pages in a copy's payload.
 pub const PAGE_COUNT: usize = 32;
 
-/// Bytes in one copy: its gate, 16 of header, a digest of 32 for each page, a seal of 32, and the pages.
-pub const COPY_LEN: usize = 49 + 32 * PAGE_COUNT + PAGE_LEN * PAGE_COUNT;
+/// The place in a copy of the first page's digest, behind the header.
+pub const DIGESTS_AT: usize = GATE_LEN + HEADER_LEN;
+
+/// Bytes in a copy beside its pages and their digests: its gate, its header and its seal.
+pub const FRAME_LEN: usize = DIGESTS_AT + DIGEST_LEN;
+
+/// Bytes in one copy: the frame, a digest for each page, and the pages.
+pub const COPY_LEN: usize = FRAME_LEN + DIGEST_LEN * PAGE_COUNT + PAGE_LEN * PAGE_COUNT;
 
 /// Bytes on a disk: two copies, one behind the other.
 pub const DISK_LEN: u64 = 2 * COPY_LEN as u64;

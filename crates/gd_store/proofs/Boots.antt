@@ -12,6 +12,7 @@ use Rattle.gd_store.specs.declared.layout.Layout.{Layout}
 use Rattle.gd_store.specs.declared.copy.Why.TheVariants.{Shut}
 use Rattle.gd_store.specs.declared.copy.CopyState.{CopyState}
 use Rattle.gd_store.specs.declared.copy.CopyState.TheVariants.{Sound, Bad}
+use Rattle.gd_disk.specs.declared.lengths.TheConstants.{PAGE_LEN}
 
 shut_state : (l : Layout) (copy : List ℕ) → (get_or copy 0 0 ≢ 0xA5) → state_of l copy ≡ Bad Shut
 unfolding state_of
@@ -59,7 +60,7 @@ open_b l m p image is = sym (first_of l.b (copy_len l.pages) image (omega arith)
 carried : (l : Layout) (m : ℕ) (p x y : List ℕ) → y ≡ x → IsCopy l m p x → IsCopy l m p y
 carried l m p x y same is = (ap (state_of l) same ∙ is.0, ap (stored_payload l) same ∙ is.1)
 
-module _ (l : Layout) (n : ℕ) (q : List ℕ) (range : n < 2 ^ 64) (long_q : length q ≡ 512 * l.pages) (apart : l.a + copy_len l.pages ≤ l.b) where
+module _ (l : Layout) (n : ℕ) (q : List ℕ) (range : n < 2 ^ 64) (long_q : length q ≡ PAGE_LEN * l.pages) (apart : l.a + copy_len l.pages ≤ l.b) where
   pub len_new : length (sealed l n q) ≡ copy_len l.pages
   len_new = length-sealed l n q range long_q
 

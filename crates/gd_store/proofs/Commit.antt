@@ -8,6 +8,7 @@ use Rattle.gd_store.specs.Writing.{IsWriting, From}
 use Rattle.gd_store.proofs.CopyMoments.{told}
 use Rattle.gd_store.proofs.Boots.{carries, Holds, told_maps, open_a, open_b, boots_a, boots_b, written_a, written_b}
 use Rattle.gd_store.specs.declared.layout.Layout.{Layout}
+use Rattle.gd_disk.specs.declared.lengths.TheConstants.{PAGE_LEN}
 
 pub gate_a : (l : Layout) (m : ℕ) (p : List ℕ) (seen : Option (List ℕ)) → IfTold seen (HoldsBoth l m p) → IfTold seen (λ c. get_or c l.a 0 ≡ 0xA5)
 gate_a l m p seen holds = told_maps seen _ _ (λ c is both. open_a l m p c both.0) holds
@@ -21,7 +22,7 @@ pub opened : (l : Layout) (n : ℕ) (q body : List ℕ) → body ≡ body_of l n
 unfolding sealed
 opened l n q body is = ap (λ (b : List ℕ). 0xA5 ∷ b) is
 
-module _ (l : Layout) (m n : ℕ) (p q copy : List ℕ) (later : m < n) (range : n < 2 ^ 64) (long_p : length p ≡ 512 * l.pages) (long_q : length q ≡ 512 * l.pages) (is_copy : copy ≡ sealed l n q) (old s1 : DiskState) (fits : LiesWithin l old.size) (synced : IsSynced old) (holds : IfTold old.seen (HoldsBoth l m p)) where
+module _ (l : Layout) (m n : ℕ) (p q copy : List ℕ) (later : m < n) (range : n < 2 ^ 64) (long_p : length p ≡ PAGE_LEN * l.pages) (long_q : length q ≡ PAGE_LEN * l.pages) (is_copy : copy ≡ sealed l n q) (old s1 : DiskState) (fits : LiesWithin l old.size) (synced : IsSynced old) (holds : IfTold old.seen (HoldsBoth l m p)) where
   abbrev pub Either : List ℕ → Type 0
   Either c = (boots l c ≡ Some (m, p)) ⊎ (boots l c ≡ Some (n, q))
 

@@ -11,3 +11,4 @@ pub mod Sealed
 pub mod Makings
 pub mod Lent
 pub mod MakingMoments
+pub mod AnyMakings

@@ -6,13 +6,14 @@ use Rattle.gd_disk.specs.Runs.{LeavesOnly}
 use Rattle.gd_disk.proofs.Runs.{and_then, at_end, goes_on, weaker}
 use Rattle.gd_disk.proofs.Written.{byte_before, byte_behind, torn_refl, torn-written}
 use Rattle.gd_store.specs.Copy.{part, copy_len, sealed, IsCopy, LiesWithin, copy_a, copy_b}
-use Rattle.gd_store.specs.Making.{AreShutting, IsMakingA, IsMakingB, IsMaking}
+use Rattle.gd_store.specs.Making.{AreShutting, IsMakingA, IsMakingB}
 use Rattle.gd_store.specs.Writing.{AreShut, From, IsOverOpen, IsShut, IsWriting, seen_shut}
 use Rattle.gd_store.specs.declared.layout.Layout.{Layout}
 use Rattle.gd_store.proofs.Boots.{carries, new_a, new_b, len_new, written_a}
 use Rattle.gd_store.proofs.Commit.{told_written}
 use Rattle.gd_store.proofs.CopyMoments.{shutting, told}
 use Rattle.gd_store.proofs.Images.{first_of, part_before, part_behind}
+use Rattle.gd_disk.specs.declared.lengths.TheConstants.{PAGE_LEN}
 
 -- a gate that held this byte, after it was written over where it was open
 shut_or_same : (at gate : ℕ) (d c : List ℕ) → at < length d → get_or d at 0 ≡ gate → IsOverOpen at gate d c → IsShut at c ⊎ (c ≡ d)
@@ -22,7 +23,7 @@ shut_or_same at gate d c lt is over = elim (cases_eq gate 0xA5) [
 ]
 
 -- a gate is shut where the same byte is
-shut_too : (at : ℕ) (m c : List ℕ) → get_or c at 0 ≡ get_or m at 0 → IsShut at m → IsShut at c
+pub shut_too : (at : ℕ) (m c : List ℕ) → get_or c at 0 ≡ get_or m at 0 → IsShut at m → IsShut at c
 shut_too at m c same shut is_open = shut (sym same ∙ is_open)
 
 gate_same : (at n : ℕ) (m c : List ℕ) → 0 < n → part at n c ≡ part at n m → get_or c at 0 ≡ get_or m at 0
@@ -74,10 +75,10 @@ over_read at gate old s1 s2 first second = and_then old s1 s2 _ _ _ first second
     (back.0, back.1, subst (λ (x : List ℕ). IsOverOpen at gate x c) back.2 from.2))
 
 -- and a sync
-pub and_sync : (l : Layout) (old s1 s2 : DiskState) → LeavesOnly old s1 (From old (AreShutting l)) → Loses Stands s1 s2 → LeavesOnly old s2 (From old (AreShutting l))
-and_sync l old s1 s2 so_far sync = goes_on old s1 s2 _ Stands so_far sync (λ c may.
+pub and_sync : (S : List ℕ → List ℕ → Type 0) (old s1 s2 : DiskState) → LeavesOnly old s1 (From old S) → Loses Stands s1 s2 → LeavesOnly old s2 (From old S)
+and_sync S old s1 s2 so_far sync = goes_on old s1 s2 _ Stands so_far sync (λ c may.
     let from = sync.now c may in
-    subst (λ (x : List ℕ). From old (AreShutting l) x) (sym from.2) (at_end old s1 _ so_far from.0 from.1))
+    subst (λ (x : List ℕ). From old S x) (sym from.2) (at_end old s1 _ so_far from.0 from.1))
 
 module _ (l : Layout) (old : DiskState) (within : LiesWithin l old.size) (synced : IsSynced old) where
   pub while_reading : (s1 : DiskState) → LeavesOnly old s1 (From old Stands) → LeavesOnly old s1 (From old (AreShutting l))
@@ -98,7 +99,7 @@ module _ (l : Layout) (old : DiskState) (within : LiesWithin l old.size) (synced
             (told old (λ image. get_or image l.a 0 ≡ gate_a) back.0 synced back.1 is_a) (told old (λ image. get_or image l.b 0 ≡ gate_b) back.0 synced back.1 is_b) back.2 from.2,
       ))
 
-module _ (l : Layout) (p copy : List ℕ) (long : length p ≡ 512 * l.pages) (is_copy : copy ≡ sealed l 0 p) (apart : l.a + copy_len l.pages ≤ l.b) where
+module _ (l : Layout) (p copy : List ℕ) (long : length p ≡ PAGE_LEN * l.pages) (is_copy : copy ≡ sealed l 0 p) (apart : l.a + copy_len l.pages ≤ l.b) where
   zero_range : 0 < 2 ^ 64
   zero_range = omega arith
 
@@ -133,17 +134,21 @@ module _ (l : Layout) (p copy : List ℕ) (long : length p ≡ 512 * l.pages) (i
         shut_too l.b d (written l.a copy d) (byte_behind l.a (length copy) l.b d (written l.a copy d) (omega (arith, len_copy, apart)) torn) here.1,
       )) shut)
 
-  module _ (old s1 : DiskState) (shutting_run : LeavesOnly old s1 (From old (AreShutting l))) where
-    pub made_shut : LeavesOnly old s1 (From old (IsMaking l p))
+  -- a making whose first step leaves this
+  abbrev pub Making : (List ℕ → List ℕ → Type 0) → List ℕ → List ℕ → Type 0
+  Making S old new = S old new ⊎ (IsMakingA l p new ⊎ IsMakingB l p new)
+
+  module _ (S : List ℕ → List ℕ → Type 0) (old s1 : DiskState) (shutting_run : LeavesOnly old s1 (From old S)) where
+    pub made_shut : LeavesOnly old s1 (From old (Making S))
     made_shut = weaker old s1 _ _ shutting_run (λ c from. (from.0, from.1, inl from.2))
 
     module _ (s2 : DiskState) (synced_1 : IsSynced s1) (shut_1 : IfTold s1.seen (AreShut l)) (run_a : LeavesOnly s1 s2 (From s1 (IsWriting l.a copy))) where
-      pub made_a : LeavesOnly old s2 (From old (IsMaking l p))
+      pub made_a : LeavesOnly old s2 (From old (Making S))
       made_a = and_then old s1 s2 _ _ _ made_shut run_a (λ c q. q) (λ c from.
           let back = at_end old s1 _ shutting_run from.0 from.1 in
           (back.0, back.1, inr (inl (writing_a from.0 c (told s1 (AreShut l) from.0 synced_1 from.1 shut_1) from.2))))
 
-      pub made_b : (s3 : DiskState) → l.b + copy_len l.pages ≤ s1.size → IsSynced s2 → s2.seen ≡ seen_written l.a copy s1.seen → LeavesOnly s2 s3 (From s2 (IsWriting l.b copy)) → LeavesOnly old s3 (From old (IsMaking l p))
+      pub made_b : (s3 : DiskState) → l.b + copy_len l.pages ≤ s1.size → IsSynced s2 → s2.seen ≡ seen_written l.a copy s1.seen → LeavesOnly s2 s3 (From s2 (IsWriting l.b copy)) → LeavesOnly old s3 (From old (Making S))
       made_b s3 room synced_2 seen_2 run_b = and_then old s2 s3 _ _ _ made_a run_b (λ c q. q) (λ c from.
           let back = at_end old s2 _ made_a from.0 from.1 in
           let here = told s2 IsHalf from.0 synced_2 from.1 (half s1 s2 room shut_1 seen_2) in

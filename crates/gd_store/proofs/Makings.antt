@@ -11,6 +11,7 @@ use Rattle.gd_store.specs.declared.layout.Layout.{Layout}
 use Rattle.gd_store.proofs.Boots.{carries, written_a, written_b}
 use Rattle.gd_store.proofs.Commit.{told_written}
 use Rattle.gd_store.proofs.Openings.{told_all}
+use Rattle.gd_disk.specs.declared.lengths.TheConstants.{PAGE_LEN}
 
 -- a cut that comes at a write is of unit call
 at_write : (unit : CutUnit) (count : ℕ) → IsTrue (counts false unit) → IsWithin 0 unit count
@@ -38,7 +39,7 @@ pub read_run : {T E : Type 0} (x : T) (old new : DiskState) → new.armed ≡ ol
 read_run x old new armed faults = record { left = subst (λ (cuts : List ArmedCut). CutsLeft 0 old.armed cuts) (sym armed) (no_call old.armed); no_fault = faults; cause = tt }
 
 -- what a read gives after both copies are written
-module _ (l : Layout) (n : ℕ) (p copy : List ℕ) (range : n < 2 ^ 64) (long : length p ≡ 512 * l.pages) (is_copy : copy ≡ sealed l n p) (s1 s2 s3 : DiskState) (within : LiesWithin l s1.size) (size : s2.size ≡ s1.size) where
+module _ (l : Layout) (n : ℕ) (p copy : List ℕ) (range : n < 2 ^ 64) (long : length p ≡ PAGE_LEN * l.pages) (is_copy : copy ≡ sealed l n p) (s1 s2 s3 : DiskState) (within : LiesWithin l s1.size) (size : s2.size ≡ s1.size) where
   first : s2.seen ≡ seen_written l.a copy s1.seen → IfTold s2.seen (λ c. IsCopy l n p (copy_a l c))
   first seen = subst (λ (s : Option (List ℕ)). IfTold s (λ c. IsCopy l n p (copy_a l c))) (sym seen) (told_written s1.seen l.a copy (λ c. Unit {0}) (λ c. IsCopy l n p (copy_a l c)) (λ d is none.
       let whole : length d ≡ s1.size = s1.whole d is in

@@ -1,5 +1,5 @@
 -- What each moment of an opening leaves.
-use Rattle.std.proofs.Common.{◌≡◌, ◌∙◌, sym, ap, subst, inr, ⊎_elim, false, arith, ◌+◌, length, true, List, ℕ, Option, Some, None}
+use Rattle.std.proofs.Common.{◌≡◌, ◌∙◌, sym, ap, subst, inr, ⊎_elim, false, arith, ◌+◌, ◌≤◌, length, true, List, ℕ, Option, Some, None}
 use Rattle.gd_disk.specs.Disk.{DiskState, Stands, IfTold, IsSynced, Rose}
 use Rattle.gd_disk.specs.Runs.{LeavesOnly, CutsLeft, CutOrFaultIn}
 use Rattle.gd_disk.proofs.Runs.{and_then, at_end, weaker}
@@ -8,7 +8,7 @@ use Rattle.gd_store.proofs.Boots.{told_maps}
 use Rattle.gd_store.specs.Booting.{IsFound}
 use Rattle.gd_store.specs.Copy.{found_in}
 use Rattle.gd_store.specs.Opening.{repairs_of}
-use Rattle.gd_store.specs.Repair.{repaired, syncs_of_repair}
+use Rattle.gd_store.specs.Repair.{Repair, NoRepair, RepairA, RepairB, repaired, syncs_of_repair}
 use Rattle.gd_store.specs.declared.found.Found.{Found}
 use Rattle.gd_store.specs.Copy.{boots}
 use Rattle.gd_store.specs.Opened.{IsOpenable}
@@ -51,3 +51,15 @@ repair_failed l found n p old mid new told armed faults cause = told_maps old.se
     let none : CutsLeft 0 old.armed mid.armed = subst (λ a. CutsLeft 0 old.armed a) (sym armed) (no_call old.armed) in
     let all : CutOrFaultIn (0 + syncs_of_repair (repaired found)) old new = failed_then 0 (syncs_of_repair (repaired found)) old mid new none faults cause in
     subst (λ (f : Found). CutOrFaultIn (syncs_of_repair (repaired f)) old new) same (subst (λ (k : ℕ). CutOrFaultIn k old new) (omega arith) all)) told
+
+-- what is told of an image by what was found of it is so by the image
+pub by_found : (l : Layout) (old : DiskState) (found : Found) (n : ℕ) (p : List ℕ) (P : ℕ → Type 0) → IfTold old.seen (λ image. IsFound l found image × (boots l image ≡ Some (n, p))) → P (syncs_of_repair (repaired found)) → IfTold old.seen (λ image. P (repairs_of l image))
+by_found l old found n p P told here = told_maps old.seen _ _ (λ image seen is.
+    let same : found ≡ found_in l image = λ i. record { a = is.0.0 i; b = is.0.1 i } in
+    subst (λ (f : Found). P (syncs_of_repair (repaired f))) same here) told
+
+-- a repair has at most three syncs
+pub few_syncs : (r : Repair) → syncs_of_repair r ≤ 3
+few_syncs NoRepair = omega arith
+few_syncs RepairA = omega arith
+few_syncs RepairB = omega arith

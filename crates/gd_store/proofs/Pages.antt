@@ -5,6 +5,7 @@ use Rattle.sha2.specs.Sha256.{sha256}
 use Rattle.gd_store.specs.Copy.{copy_len, part, page, page_matches, lowest_bad, stored_payload, stored_digest}
 use Rattle.gd_store.proofs.Parts.{part_part}
 use Rattle.gd_store.specs.declared.layout.Layout.{Layout}
+use Rattle.gd_disk.specs.declared.lengths.TheConstants.{DIGEST_LEN, DIGESTS_AT, FRAME_LEN, PAGE_LEN}
 
 module _ (l : Layout) (copy : List ℕ) (i pages : ℕ) where
   split : i < pages → pages - i ≡ suc (pages - (i + 1))
@@ -23,16 +24,16 @@ module _ (l : Layout) (copy : List ℕ) (i pages : ℕ) where
   bad_none le = let e : pages - i ≡ 0 = omega (arith, le) in ap (λ (n : ℕ). lowest_bad l copy i n) e
 
   -- the test of the code
-  pub test_is : i < l.pages → (digest kept : List ℕ) → digest ≡ sha256 (part (49 + 32 * l.pages + 512 * i) 512 copy) → kept ≡ part (17 + 32 * i) 32 copy → bytes_eq digest kept ≡ page_matches l copy i
+  pub test_is : i < l.pages → (digest kept : List ℕ) → digest ≡ sha256 (part (FRAME_LEN + DIGEST_LEN * l.pages + PAGE_LEN * i) PAGE_LEN copy) → kept ≡ part (DIGESTS_AT + DIGEST_LEN * i) DIGEST_LEN copy → bytes_eq digest kept ≡ page_matches l copy i
   unfolding page_matches stored_payload stored_digest
   test_is lt digest kept digest_is kept_is =
-      let same : page i (part (49 + 32 * l.pages) (512 * l.pages) copy) ≡ part (49 + 32 * l.pages + 512 * i) 512 copy = part_part (49 + 32 * l.pages) (512 * l.pages) (512 * i) 512 copy (omega (arith, lt)) in
-      ap (λ (x : List ℕ). bytes_eq x kept) (digest_is ∙ ap sha256 (sym same)) ∙ ap (λ (x : List ℕ). bytes_eq (sha256 (page i (part (49 + 32 * l.pages) (512 * l.pages) copy))) x) kept_is
+      let same : page i (part (FRAME_LEN + DIGEST_LEN * l.pages) (PAGE_LEN * l.pages) copy) ≡ part (FRAME_LEN + DIGEST_LEN * l.pages + PAGE_LEN * i) PAGE_LEN copy = part_part (FRAME_LEN + DIGEST_LEN * l.pages) (PAGE_LEN * l.pages) (PAGE_LEN * i) PAGE_LEN copy (omega (arith, lt)) in
+      ap (λ (x : List ℕ). bytes_eq x kept) (digest_is ∙ ap sha256 (sym same)) ∙ ap (λ (x : List ℕ). bytes_eq (sha256 (page i (part (FRAME_LEN + DIGEST_LEN * l.pages) (PAGE_LEN * l.pages) copy))) x) kept_is
 
 -- the slice behind the front of a copy
-pub slice_payload : (l : Layout) (copy : List ℕ) → length copy ≡ copy_len l.pages → take (length copy - (49 + 32 * l.pages)) (drop (49 + 32 * l.pages) copy) ≡ stored_payload l copy
+pub slice_payload : (l : Layout) (copy : List ℕ) → length copy ≡ copy_len l.pages → take (length copy - (FRAME_LEN + DIGEST_LEN * l.pages)) (drop (FRAME_LEN + DIGEST_LEN * l.pages) copy) ≡ stored_payload l copy
 unfolding stored_payload
-slice_payload l copy long = let sums : length copy - (49 + 32 * l.pages) ≡ 512 * l.pages = omega (arith, long) in ap (λ (k : ℕ). take k (drop (49 + 32 * l.pages) copy)) sums
+slice_payload l copy long = let sums : length copy - (FRAME_LEN + DIGEST_LEN * l.pages) ≡ PAGE_LEN * l.pages = omega (arith, long) in ap (λ (k : ℕ). take k (drop (FRAME_LEN + DIGEST_LEN * l.pages) copy)) sums
 
 not_equal : (r b : Bool) → r ≡ not b → r ≡ true → b ≡ false
 not_equal r true is h = absurd (clash (sym h ∙ is))

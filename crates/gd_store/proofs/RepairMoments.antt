@@ -9,8 +9,9 @@ use Rattle.gd_store.proofs.CopyMoments.{told}
 use Rattle.gd_store.proofs.Commit.{told_written}
 use Rattle.gd_store.proofs.Boots.{carries, repair_a, repair_b, written_a, written_b}
 use Rattle.gd_store.specs.declared.layout.Layout.{Layout}
+use Rattle.gd_disk.specs.declared.lengths.TheConstants.{PAGE_LEN}
 
-module _ (l : Layout) (n : ℕ) (q copy : List ℕ) (range : n < 2 ^ 64) (long_q : length q ≡ 512 * l.pages) (is_copy : copy ≡ sealed l n q) (old new : DiskState) (fits : LiesWithin l old.size) (synced : IsSynced old) where
+module _ (l : Layout) (n : ℕ) (q copy : List ℕ) (range : n < 2 ^ 64) (long_q : length q ≡ PAGE_LEN * l.pages) (is_copy : copy ≡ sealed l n q) (old new : DiskState) (fits : LiesWithin l old.size) (synced : IsSynced old) where
   abbrev pub Booted_b : List ℕ → Type 0
   Booted_b image = IsCopy l n q (copy_b l image) × (boots l image ≡ Some (n, q))
 

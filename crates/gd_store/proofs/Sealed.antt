@@ -11,8 +11,9 @@ use Rattle.gd_store.specs.Copy.{part, copy_len, header_start, page, digests, hea
 use Rattle.gd_store.proofs.Parts.{part_front, part_part, part_last, length-copy, part_start, part_number, part_head, part_digs, part_seal, part_payload}
 use Rattle.gd_store.specs.declared.layout.Layout.{Layout}
 use Rattle.gd_store.specs.declared.copy.CopyState.TheVariants.{Sound}
+use Rattle.gd_disk.specs.declared.lengths.TheConstants.{DIGEST_LEN, DIGESTS_AT, PAGE_LEN}
 
-pub length-digests : (n : ℕ) (payload : List ℕ) → length (digests n payload) ≡ 32 * n
+pub length-digests : (n : ℕ) (payload : List ℕ) → length (digests n payload) ≡ DIGEST_LEN * n
 unfolding digests
 length-digests zero payload = refl
 length-digests (suc n) payload = omega (arith, length-append (digests n payload) (sha256 (page n payload)), length-digests n payload, length-sha256 (page n payload))
@@ -25,18 +26,18 @@ pub same_bytes : (xs ys : List ℕ) → xs ≡ ys → bytes_eq xs ys ≡ true
 same_bytes xs ys same = (bytes_eq-Decides xs ys).1 same
 
 -- the digest of page i among those of n pages
-digest_at : (n i : ℕ) (payload : List ℕ) → i < n → part (32 * i) 32 (digests n payload) ≡ sha256 (page i payload)
+digest_at : (n i : ℕ) (payload : List ℕ) → i < n → part (DIGEST_LEN * i) DIGEST_LEN (digests n payload) ≡ sha256 (page i payload)
 unfolding digests
 digest_at zero i payload lt = absurd (omega arith)
 digest_at (suc n) i payload lt = elim (cases_eq i n) [
-  | inl same ↦ subst (λ (k : ℕ). part (32 * k) 32 (digests n payload ++ sha256 (page n payload)) ≡ sha256 (page k payload)) (sym same) (part_last (digests n payload) (sha256 (page n payload)) (32 * n) 32 (length-digests n payload) (length-sha256 (page n payload)))
+  | inl same ↦ subst (λ (k : ℕ). part (DIGEST_LEN * k) DIGEST_LEN (digests n payload ++ sha256 (page n payload)) ≡ sha256 (page k payload)) (sym same) (part_last (digests n payload) (sha256 (page n payload)) (DIGEST_LEN * n) DIGEST_LEN (length-digests n payload) (length-sha256 (page n payload)))
   | inr other ↦
       let lower : i < n = omega (arith, lt, other) in
       let long = length-digests n payload in
-      part_front (digests n payload) (sha256 (page n payload)) (32 * i) 32 (omega (arith, long, lower)) ∙ digest_at n i payload lower
+      part_front (digests n payload) (sha256 (page n payload)) (DIGEST_LEN * i) DIGEST_LEN (omega (arith, long, lower)) ∙ digest_at n i payload lower
 ]
 
-module _ (l : Layout) (sequence : ℕ) (payload : List ℕ) (range : sequence < 2 ^ 64) (long : length payload ≡ 512 * l.pages) where
+module _ (l : Layout) (sequence : ℕ) (payload : List ℕ) (range : sequence < 2 ^ 64) (long : length payload ≡ PAGE_LEN * l.pages) where
   abbrev digs : List ℕ
   digs = digests l.pages payload
 
@@ -51,9 +52,9 @@ module _ (l : Layout) (sequence : ℕ) (payload : List ℕ) (range : sequence < 
   unfolding sealed body_of head_of stored_payload
   sealed_payload = part_payload (header_start l) (to_be_bytes w64 sequence) digs seal payload l.pages (length-start l) refl (length-digests l.pages payload) (length-sha256 _) long
 
-  kept : (i : ℕ) → i < l.pages → part (17 + 32 * i) 32 (sealed l sequence payload) ≡ sha256 (page i payload)
+  kept : (i : ℕ) → i < l.pages → part (DIGESTS_AT + DIGEST_LEN * i) DIGEST_LEN (sealed l sequence payload) ≡ sha256 (page i payload)
   unfolding sealed body_of head_of
-  kept i lt = sym (part_part 17 (32 * l.pages) (32 * i) 32 _ (omega arith)) ∙ ap (λ (x : List ℕ). part (32 * i) 32 x) (part_digs (header_start l) (to_be_bytes w64 sequence) digs seal payload l.pages (length-start l) refl (length-digests l.pages payload) (length-sha256 _) long) ∙ digest_at l.pages i payload lt
+  kept i lt = sym (part_part DIGESTS_AT (DIGEST_LEN * l.pages) (DIGEST_LEN * i) DIGEST_LEN _ (omega arith)) ∙ ap (λ (x : List ℕ). part (DIGEST_LEN * i) DIGEST_LEN x) (part_digs (header_start l) (to_be_bytes w64 sequence) digs seal payload l.pages (length-start l) refl (length-digests l.pages payload) (length-sha256 _) long) ∙ digest_at l.pages i payload lt
 
   page_ok : (i : ℕ) → i < l.pages → page_matches l (sealed l sequence payload) i ≡ true
   unfolding page_matches stored_digest

@@ -8,6 +8,7 @@ use Rattle.gd_store.specs.declared.found.Found.{Found}
 use Rattle.gd_store.specs.declared.copy.Why.TheVariants.{Shut, BadHeader, BadRoot, BadPage}
 use Rattle.gd_store.specs.declared.copy.CopyState.{CopyState}
 use Rattle.gd_store.specs.declared.copy.CopyState.TheVariants.{Sound, Bad}
+use Rattle.gd_disk.specs.declared.lengths.TheConstants.{DIGEST_LEN, DIGESTS_AT, FRAME_LEN, HEADER_LEN, PAGE_LEN}
 
 -- n bytes of a list from a place on
 abbrev pub part : ℕ → ℕ → List ℕ → List ℕ
@@ -15,7 +16,7 @@ part at n bytes = take n (drop at bytes)
 
 -- a gate, a header, a digest for each page, a seal of header and digests, and the pages
 abbrev pub copy_len : ℕ → ℕ
-copy_len pages = 49 + 32 * pages + 512 * pages
+copy_len pages = FRAME_LEN + DIGEST_LEN * pages + PAGE_LEN * pages
 
 -- the name, the version and the page count, with which a header begins
 unfoldable pub header_start : Layout → List ℕ
@@ -23,7 +24,7 @@ header_start l = (71 ∷ 68 ∷ 67 ∷ 77 ∷ []) ++ to_be_bytes w16 l.version +
 
 -- page i of a payload
 abbrev pub page : ℕ → List ℕ → List ℕ
-page i payload = part (512 * i) 512 payload
+page i payload = part (PAGE_LEN * i) PAGE_LEN payload
 
 -- the digests of its first n pages
 unfoldable pub digests : ℕ → List ℕ → List ℕ
@@ -50,19 +51,19 @@ stored_sequence copy = from_be_bytes w64 (part 9 8 copy)
 
 -- its header and digests
 unfoldable pub stored_head : Layout → List ℕ → List ℕ
-stored_head l copy = part 1 (16 + 32 * l.pages) copy
+stored_head l copy = part 1 (HEADER_LEN + DIGEST_LEN * l.pages) copy
 
 -- its seal
 unfoldable pub stored_seal : Layout → List ℕ → List ℕ
-stored_seal l copy = part (17 + 32 * l.pages) 32 copy
+stored_seal l copy = part (DIGESTS_AT + DIGEST_LEN * l.pages) DIGEST_LEN copy
 
 -- its pages
 unfoldable pub stored_payload : Layout → List ℕ → List ℕ
-stored_payload l copy = part (49 + 32 * l.pages) (512 * l.pages) copy
+stored_payload l copy = part (FRAME_LEN + DIGEST_LEN * l.pages) (PAGE_LEN * l.pages) copy
 
 -- the digest that is kept for page i
 unfoldable pub stored_digest : ℕ → List ℕ → List ℕ
-stored_digest i copy = part (17 + 32 * i) 32 copy
+stored_digest i copy = part (DIGESTS_AT + DIGEST_LEN * i) DIGEST_LEN copy
 
 -- whether page i has its digest
 unfoldable pub page_matches : Layout → List ℕ → ℕ → Bool

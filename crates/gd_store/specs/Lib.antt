@@ -2,6 +2,7 @@ pub mod Booting
 pub mod Choice
 pub mod Copy
 pub mod Lending
+pub mod Lost
 pub mod Making
 pub mod Opened
 pub mod Opening

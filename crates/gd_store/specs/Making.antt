@@ -1,5 +1,5 @@
 -- The making of a memory: what it answers, and what it leaves at each moment.
-use Rattle.std.specs.Prelude.{◌≡◌, ◌⊎◌, ℕ, List, Result, Ok, Err}
+use Rattle.std.specs.Prelude.{◌≡◌, ◌⊎◌, ℕ, List, ◌∷◌, drop, slice_index, Option, Some, Result, Ok, Err}
 use Rattle.gd_store.specs.Copy.{IsCopy, copy_a, copy_b}
 use Rattle.gd_store.specs.Writing.{IsShut}
 use Rattle.gd_store.specs.declared.layout.Layout.{Layout}
@@ -25,6 +25,24 @@ pub record AreShutting (l : Layout) (old new : List ℕ) : Type 0 where
   pub a : IsShut l.a new ⊎ (copy_a l new ≡ copy_a l old)
   pub b : IsShut l.b new ⊎ (copy_b l new ≡ copy_b l old)
 
+-- what a read gives of a disk has an open gate at this place, where the disk tells it
+abbrev pub ReadsOpen : ℕ → Option (List ℕ) → Type 0
+ReadsOpen at seen = (image : List ℕ) → seen ≡ Some image → slice_index image at ≡ 0xA5
+
+-- a copy behind an open gate
+abbrev pub behind_open : List ℕ → List ℕ
+behind_open copy = 0xA5 ∷ drop 1 copy
+
+-- a copy while its gate is shut over any disk: as it was, or, where a read gave an open gate, as it was behind an open gate
+abbrev pub IsOld : ℕ → Option (List ℕ) → List ℕ → List ℕ → Type 0
+IsOld at seen old new = (new ≡ old) ⊎ (ReadsOpen at seen × (new ≡ behind_open old))
+
+-- While the gates are shut over a disk where writes may wait for a sync, of which a read gives this: each copy is the old
+-- one, or it's shut. An open gate that waits may be durable before what waits behind it.
+pub record AreShuttingAny (l : Layout) (seen : Option (List ℕ)) (old new : List ℕ) : Type 0 where
+  pub a : IsShut l.a new ⊎ IsOld l.a seen (copy_a l old) (copy_a l new)
+  pub b : IsShut l.b new ⊎ IsOld l.b seen (copy_b l old) (copy_b l new)
+
 -- while copy a is written: it's shut, or it holds the payload at sequence 0, and copy b is shut
 pub record IsMakingA (l : Layout) (payload new : List ℕ) : Type 0 where
   pub a : IsShut l.a new ⊎ IsCopy l 0 payload (copy_a l new)
@@ -38,3 +56,7 @@ pub record IsMakingB (l : Layout) (payload new : List ℕ) : Type 0 where
 -- at a moment of a making over an image
 abbrev pub IsMaking : Layout → List ℕ → List ℕ → List ℕ → Type 0
 IsMaking l payload old new = AreShutting l old new ⊎ (IsMakingA l payload new ⊎ IsMakingB l payload new)
+
+-- the same over a disk where writes may wait for a sync
+abbrev pub IsMakingAny : Layout → List ℕ → Option (List ℕ) → List ℕ → List ℕ → Type 0
+IsMakingAny l payload seen old new = AreShuttingAny l seen old new ⊎ (IsMakingA l payload new ⊎ IsMakingB l payload new)

@@ -1,16 +1,18 @@
 // What a disk boots to, with the payload in a room.
 ghost use Rattle.std.specs.Prelude.{◌≡◌, true, OnOk, OnErr, Some, None};
 ghost use Rattle.gd_disk.specs.Disk.{IfTold, Stands, Answers, Rose};
+ghost use Rattle.gd_disk.specs.CutRuns.{RunOf};
 ghost use Rattle.gd_disk.specs.Runs.{LeavesOnly};
 ghost use Rattle.gd_store.specs.Copy.{stored_payload};
 ghost use Rattle.gd_store.specs.Choice.{spelled};
 ghost use Rattle.gd_store.specs.Booting.{BootedAs, outcome, BootedCopies, IsLatest, with_payload};
+ghost use Rattle.gd_store.specs.Lost.{IsLost, IsLostWhere, LostFinds};
 ghost use Rattle.gd_store.specs.Words.{room_payload};
 ghost use Rattle.gd_store.specs.Writing.{From};
 
 use crate::reading::{Choice, read_copies};
 use crate::{Found, LAYOUT, Room};
-use gd_disk::{DISK_LEN, Disk, Off};
+use gd_disk::{DIGEST_LEN, DISK_LEN, Disk, FRAME_LEN, Off};
 
 /// What a boot answers.
 #[derive(Clone, Copy, Debug, PartialEq, Eq, Drop)]
@@ -24,11 +26,14 @@ pub enum Booted {
 }
 
 /// Reads both copies, and writes nothing to the disk. At Ready the room holds the payload of the sound copy with
-/// the later sequence.
+/// the later sequence. Lost comes exactly where no copy is sound, or both are at one sequence with different payloads.
+/// Off comes where a read failed.
 pub fn boot<D: Disk>(disk: &mut D, room: &mut Room) -> Booted
     requires size { (D.state disk.old).size ≡ DISK_LEN }
     ensures what { IfTold (D.state disk.old).seen (BootedAs LAYOUT result (room_payload room.new)) }
     ensures copies { IfTold (D.state disk.old).seen (BootedCopies LAYOUT result room.new) }
+    ensures lost { IfTold (D.state disk.old).seen (λ image. IsLostWhere result (IsLost LAYOUT image)) }
+    ensures lost_states { LostFinds result }
     ensures latest { IsLatest result }
     ensures seen { OnOk (outcome result) ((D.state disk.new).seen ≡ (D.state disk.old).seen) }
     ensures any_moment { LeavesOnly (D.state disk.old) (D.state disk.new) (From (D.state disk.old) Stands) }
@@ -36,6 +41,7 @@ pub fn boot<D: Disk>(disk: &mut D, room: &mut Room) -> Booted
     ensures syncs { (D.state disk.new).syncs ≡ (D.state disk.old).syncs }
     ensures armed { (D.state disk.new).armed ≡ (D.state disk.old).armed }
     ensures fault { OnErr (outcome result) ((D.state disk.old).is_on ≡ true → Rose (D.state disk.old).faults (D.state disk.new).faults) }
+    ensures run { RunOf 0 (outcome result) (D.state disk.old) (D.state disk.new) }
 {
     match read_copies(disk, LAYOUT, &mut room.a, &mut room.b) {
         Err(Off) => Booted::Off,
@@ -58,7 +64,7 @@ fn take_payload(room: &mut Room, choice: Choice) -> Option<u64>
     ensures a { room.new.a.items ≡ room.old.a.items }
     ensures b { room.new.b.items ≡ room.old.b.items }
 {
-    let first = 49 + 32 * LAYOUT.pages as usize;
+    let first = FRAME_LEN + DIGEST_LEN * LAYOUT.pages as usize;
     match choice {
         Choice::CopyA(sequence) => {
             room.payload.copy_from_slice(&room.a[first..]);

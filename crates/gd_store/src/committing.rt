@@ -1,10 +1,11 @@
 // The commit of a payload.
-ghost use Rattle.std.specs.Prelude.{◌≡◌, ◌⊎◌, ◌+◌, ◌*◌, ◌<◌, ◌^◌, length, OnOk, OnErr, true, false, Some};
-ghost use Rattle.gd_disk.specs.Disk.{IfTold, IsSynced, Answers};
+ghost use Rattle.std.specs.Prelude.{◌≡◌, ◌⊎◌, ◌+◌, ◌*◌, ◌<◌, ◌^◌, length, OnOk, OnErr, IsErr, true, false, Some};
+ghost use Rattle.gd_disk.specs.Disk.{IfTold, IsSynced, Stands, Answers};
+ghost use Rattle.gd_disk.specs.CutRuns.{RunOf};
 ghost use Rattle.gd_disk.specs.Runs.{LeavesOnly, CutsOfRun};
 ghost use Rattle.gd_store.specs.Copy.{HoldsBoth, LiesWithin, boots, copy_len};
 ghost use Rattle.gd_store.specs.Words.{store_disk, store_payload, store_sequence, store_stopped};
-ghost use Rattle.gd_store.specs.Writing.{MadeSyncs};
+ghost use Rattle.gd_store.specs.Writing.{From, MadeSyncs};
 
 use crate::sealing::seal_body;
 use crate::writing::{OPEN, write_copy};
@@ -21,11 +22,13 @@ impl<D: Disk> Store<D> {
         requires sequence { store_sequence self.old < 2 ^ 36 }
         ensures committed { OnOk result ((store_sequence self.new ≡ store_sequence self.old + 1) × (store_payload self.new ≡ payload.now) × (store_stopped self.new ≡ false)) }
         ensures stays { OnErr result ((store_sequence self.new ≡ store_sequence self.old) × (store_payload self.new ≡ store_payload self.old) × (store_stopped self.new ≡ true)) }
+        ensures after_off { store_stopped self.old ≡ true → IsErr result × ((D.state (store_disk self.old)).is_on ≡ false) × LeavesOnly (D.state (store_disk self.old)) (D.state (store_disk self.new)) (From (D.state (store_disk self.old)) Stands) }
         ensures any_moment { store_stopped self.old ≡ false → LeavesOnly (D.state (store_disk self.old)) (D.state (store_disk self.new))
             (λ image. (boots LAYOUT image ≡ Some (store_sequence self.old, store_payload self.old)) ⊎ (boots LAYOUT image ≡ Some (store_sequence self.old + 1, payload.now))) }
         ensures answer { Answers result (D.state (store_disk self.old)) (D.state (store_disk self.new)) }
         ensures syncs { MadeSyncs 6 result (D.state (store_disk self.old)) (D.state (store_disk self.new)) }
         ensures cuts { CutsOfRun 6 result (D.state (store_disk self.old)) (D.state (store_disk self.new)) }
+        ensures run { RunOf 6 result (D.state (store_disk self.old)) (D.state (store_disk self.new)) }
     {
         if self.is_stopped {
             self.disk.sync()?;
@@ -63,8 +66,8 @@ fn write_both<D: Disk>(
     body: &mut [u8],
 ) -> Result<(), Off>
     requires within { LiesWithin layout (D.state disk.old).size }
-    requires kept { length kept.now ≡ 512 * layout.pages }
-    requires length { length payload.now ≡ 512 * layout.pages }
+    requires kept { length kept.now ≡ PAGE_LEN * layout.pages }
+    requires length { length payload.now ≡ PAGE_LEN * layout.pages }
     requires body { length body.old + 1 ≡ copy_len layout.pages }
     requires sequence { sequence < 2 ^ 36 }
     requires synced { IsSynced (D.state disk.old) }
@@ -76,6 +79,7 @@ fn write_both<D: Disk>(
     ensures answer { Answers result (D.state disk.old) (D.state disk.new) }
     ensures syncs { MadeSyncs 6 result (D.state disk.old) (D.state disk.new) }
     ensures cuts { CutsOfRun 6 result (D.state disk.old) (D.state disk.new) }
+    ensures run { RunOf 6 result (D.state disk.old) (D.state disk.new) }
 {
     seal_body(layout, sequence + 1, payload, body);
     write_copy(disk, layout.a, OPEN, body)?;

@@ -6,6 +6,7 @@ mod booting;
 mod committing;
 mod copy;
 mod found;
+mod laboratory;
 mod layout;
 mod making;
 mod opening;

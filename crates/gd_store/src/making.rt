@@ -1,16 +1,17 @@
 // The making of a memory.
 ghost use Rattle.std.specs.Prelude.{◌≡◌, ◌+◌, ◌*◌, ◌≤◌, length, slice_index, IfOk, OnOk};
 ghost use Rattle.gd_disk.specs.Disk.{IfTold, Stands, IsSynced, Answers};
+ghost use Rattle.gd_disk.specs.CutRuns.{RunOf};
 ghost use Rattle.gd_disk.specs.Runs.{LeavesOnly, CutsOfRun};
 ghost use Rattle.gd_store.specs.Copy.{HoldsBoth, LiesWithin, copy_len};
 ghost use Rattle.gd_store.specs.Words.{room_payload};
 ghost use Rattle.gd_store.specs.Writing.{AreShut, From, MadeSyncs};
-ghost use Rattle.gd_store.specs.Making.{made_disk, made_room, made_outcome, AreShutting, IsMaking};
+ghost use Rattle.gd_store.specs.Making.{made_disk, made_room, made_outcome, AreShutting, AreShuttingAny, IsMaking, IsMakingAny};
 
 use crate::sealing::seal_body;
 use crate::writing::{shut_open, write_shut};
 use crate::{LAYOUT, Layout, Room, Store};
-use gd_disk::{DISK_LEN, Disk, Off};
+use gd_disk::{DISK_LEN, Disk, Off, PAGE_LEN};
 
 /// What the making of a memory answers.
 #[derive(Drop)]
@@ -23,16 +24,19 @@ pub enum Made<D: Disk> {
 
 impl<D: Disk> Store<D> {
     /// Writes the room's payload to both copies at sequence 0, whatever the disk has: shuts the gates that are open,
-    /// then writes and opens copy a, then copy b, by five syncs. The room keeps its payload. Where nothing waited for
-    /// a sync before, each copy is the old one, or shut, or the new one at each moment, and none is new beside an old one.
+    /// then writes and opens copy a, then copy b, by five syncs. The room keeps its payload. At each moment each copy
+    /// is the old one, or shut, or the new one, and none is new beside an old one. Where writes waited for a sync before,
+    /// a gate that they opened may be found open over the old copy until the first of the five.
     pub fn make(disk: D, room: Room) -> Made<D>
         requires size { (D.state disk).size ≡ DISK_LEN }
         ensures done { OnOk (made_outcome result) (IfTold (D.state (made_disk result)).seen (HoldsBoth LAYOUT 0 (room_payload room))) }
         ensures synced { OnOk (made_outcome result) (IsSynced (D.state (made_disk result))) }
         ensures any_moment { IsSynced (D.state disk) → LeavesOnly (D.state disk) (D.state (made_disk result)) (From (D.state disk) (IsMaking LAYOUT (room_payload room))) }
+        ensures waiting { LeavesOnly (D.state disk) (D.state (made_disk result)) (From (D.state disk) (IsMakingAny LAYOUT (room_payload room) (D.state disk).seen)) }
         ensures answer { Answers (made_outcome result) (D.state disk) (D.state (made_disk result)) }
         ensures syncs { MadeSyncs 5 (made_outcome result) (D.state disk) (D.state (made_disk result)) }
         ensures cuts { CutsOfRun 5 (made_outcome result) (D.state disk) (D.state (made_disk result)) }
+        ensures run { RunOf 5 (made_outcome result) (D.state disk) (D.state (made_disk result)) }
         ensures payload { room_payload (made_room result) ≡ room_payload room }
     {
         let mut disk = disk;
@@ -53,14 +57,16 @@ fn make_both<D: Disk>(
     body: &mut [u8],
 ) -> Result<(), Off>
     requires within { LiesWithin layout (D.state disk.old).size }
-    requires payload { length payload.now ≡ 512 * layout.pages }
+    requires payload { length payload.now ≡ PAGE_LEN * layout.pages }
     requires body { length body.old + 1 ≡ copy_len layout.pages }
     ensures holds { OnOk result (IfTold (D.state disk.new).seen (HoldsBoth layout 0 payload.now)) }
     ensures synced { OnOk result (IsSynced (D.state disk.new)) }
     ensures any_moment { IsSynced (D.state disk.old) → LeavesOnly (D.state disk.old) (D.state disk.new) (From (D.state disk.old) (IsMaking layout payload.now)) }
+    ensures waiting { LeavesOnly (D.state disk.old) (D.state disk.new) (From (D.state disk.old) (IsMakingAny layout payload.now (D.state disk.old).seen)) }
     ensures answer { Answers result (D.state disk.old) (D.state disk.new) }
     ensures syncs { MadeSyncs 5 result (D.state disk.old) (D.state disk.new) }
     ensures cuts { CutsOfRun 5 result (D.state disk.old) (D.state disk.new) }
+    ensures run { RunOf 5 result (D.state disk.old) (D.state disk.new) }
 {
     shut_both(disk, layout)?;
     seal_body(layout, 0, payload, body);
@@ -74,9 +80,11 @@ fn shut_both<D: Disk>(disk: &mut D, layout: Layout) -> Result<(), Off>
     ensures shut { OnOk result (IfTold (D.state disk.new).seen (AreShut layout)) }
     ensures synced { OnOk result (IsSynced (D.state disk.new)) }
     ensures any_moment { IsSynced (D.state disk.old) → LeavesOnly (D.state disk.old) (D.state disk.new) (From (D.state disk.old) (AreShutting layout)) }
+    ensures waiting { LeavesOnly (D.state disk.old) (D.state disk.new) (From (D.state disk.old) (AreShuttingAny layout (D.state disk.old).seen)) }
     ensures answer { Answers result (D.state disk.old) (D.state disk.new) }
     ensures syncs { MadeSyncs 1 result (D.state disk.old) (D.state disk.new) }
     ensures cuts { CutsOfRun 1 result (D.state disk.old) (D.state disk.new) }
+    ensures run { RunOf 1 result (D.state disk.old) (D.state disk.new) }
 {
     let gate_a = read_gate(disk, layout.a)?;
     let gate_b = read_gate(disk, layout.b)?;
@@ -94,6 +102,7 @@ fn read_gate<D: Disk>(disk: &mut D, at: u64) -> Result<u8, Off>
     ensures answer { Answers result (D.state disk.old) (D.state disk.new) }
     ensures syncs { (D.state disk.new).syncs ≡ (D.state disk.old).syncs }
     ensures cuts { CutsOfRun 0 result (D.state disk.old) (D.state disk.new) }
+    ensures run { RunOf 0 result (D.state disk.old) (D.state disk.new) }
 {
     let mut byte = [0];
     disk.read(at, &mut byte)?;

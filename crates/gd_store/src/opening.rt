@@ -1,14 +1,16 @@
 // The opening of a store.
 ghost use Rattle.std.specs.Prelude.{◌≡◌, ◌+◌, ◌<◌, OnErr, Some, None, true, false};
 ghost use Rattle.gd_disk.specs.Disk.{IfTold, Answers};
+ghost use Rattle.gd_disk.specs.CutRuns.{RunOf};
 ghost use Rattle.gd_disk.specs.Runs.{LeavesOnly, CutsLeft, CutOrFaultIn};
 ghost use Rattle.gd_store.specs.Copy.{boots};
 ghost use Rattle.gd_store.specs.Booting.{IsFound};
+ghost use Rattle.gd_store.specs.Lost.{IsLost, OpensLostWhere};
 ghost use Rattle.gd_store.specs.Words.{store_disk, store_payload, store_sequence, store_stopped};
 ghost use Rattle.gd_store.specs.Writing.{KeepsBoot};
 ghost use Rattle.gd_store.specs.Opening.{repairs_of};
 ghost use Rattle.gd_store.specs.Repair.{repaired, syncs_of_repair};
-ghost use Rattle.gd_store.specs.Opened.{disk_in, outcome, OnReady, OnLost, IsOpenable};
+ghost use Rattle.gd_store.specs.Opened.{disk_in, outcome, OnReady, OnLost, IsOpenable, OpeningRun};
 
 use crate::booting::{Booted, boot};
 use crate::repairing::repair;
@@ -36,6 +38,7 @@ impl<D: Disk> Store<D> {
         ensures ready { OnReady result (λ store found. IfTold (D.state disk).seen (λ image.
             IsFound LAYOUT found image × (boots LAYOUT image ≡ Some (store_sequence store, store_payload store)))) }
         ensures lost { OnLost result (λ found. IfTold (D.state disk).seen (λ image. IsFound LAYOUT found image × (boots LAYOUT image ≡ None))) }
+        ensures lost_exactly { IfTold (D.state disk).seen (λ image. OpensLostWhere result (IsLost LAYOUT image)) }
         ensures any_moment { LeavesOnly (D.state disk) (D.state (disk_in result)) (KeepsBoot LAYOUT (D.state disk)) }
         ensures answer { Answers (outcome result) (D.state disk) (D.state (disk_in result)) }
         ensures repaired { OnReady result (λ store found. (D.state (store_disk store)).syncs ≡ (D.state disk).syncs + syncs_of_repair (repaired found)) }
@@ -44,6 +47,8 @@ impl<D: Disk> Store<D> {
         ensures cuts { OnReady result (λ store found. CutsLeft (syncs_of_repair (repaired found)) (D.state disk).armed (D.state (store_disk store)).armed
             × ((D.state (store_disk store)).faults ≡ (D.state disk).faults)) }
         ensures cut { OnErr (outcome result) (IfTold (D.state disk).seen (λ image. (D.state disk).is_on ≡ true → CutOrFaultIn (repairs_of LAYOUT image) (D.state disk) (D.state (disk_in result)))) }
+        ensures answer_run { OpeningRun result (D.state disk) (D.state (disk_in result)) }
+        ensures run { IfTold (D.state disk).seen (λ image. RunOf (repairs_of LAYOUT image) (outcome result) (D.state disk) (D.state (disk_in result))) }
     {
         let mut disk = disk;
         let mut room = room;

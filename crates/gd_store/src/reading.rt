@@ -1,13 +1,14 @@
 // What a disk boots to.
 ghost use Rattle.std.specs.Prelude.{◌≡◌, OnErr, true, ◌≤◌, length, IfOk, OnOk, Some, None};
 ghost use Rattle.gd_disk.specs.Disk.{IfTold, Stands, Answers, Rose};
+ghost use Rattle.gd_disk.specs.CutRuns.{RunOf};
 ghost use Rattle.gd_disk.specs.Runs.{LeavesOnly};
 ghost use Rattle.gd_store.specs.Copy.{copy_len, header_start, state_of, lowest_bad, stored_sequence, copy_a, copy_b, chosen, LiesWithin, stored_payload};
 ghost use Rattle.gd_store.specs.Choice.{spelled};
 ghost use Rattle.gd_store.specs.Writing.{From};
 
 use crate::{CopyState, Layout, Why};
-use gd_disk::{Disk, Off};
+use gd_disk::{DIGEST_LEN, DIGESTS_AT, Disk, FRAME_LEN, Off, PAGE_LEN};
 use sha2::{Digest, Sha256};
 
 // The name, the version and the page count with which a header begins.
@@ -21,11 +22,11 @@ fn start(layout: Layout) -> [u8; 8]
 
 // The sequence in the header of a copy.
 fn sequence(copy: &[u8]) -> u64
-    requires { 17 ≤ length copy.now }
+    requires { DIGESTS_AT ≤ length copy.now }
     ensures { result ≡ stored_sequence copy.now }
 {
     let mut bytes = [0; 8];
-    bytes.copy_from_slice(&copy[9..17]);
+    bytes.copy_from_slice(&copy[9..DIGESTS_AT]);
     u64::from_be_bytes(bytes)
 }
 
@@ -36,10 +37,11 @@ fn lowest_bad_page(layout: Layout, copy: &[u8]) -> Option<u8>
     ensures { result ≡ lowest_bad layout copy.now 0 layout.pages }
 {
     let pages = layout.pages as usize;
-    let first = 49 + 32 * pages;
+    let first = FRAME_LEN + DIGEST_LEN * pages;
     for i in 0..pages {
-        let digest = Sha256::digest(&copy[first + 512 * i..first + 512 * i + 512]);
-        if digest[..] != copy[17 + 32 * i..49 + 32 * i] {
+        let digest = Sha256::digest(&copy[first + PAGE_LEN * i..first + PAGE_LEN * i + PAGE_LEN]);
+        let kept = DIGESTS_AT + DIGEST_LEN * i;
+        if digest[..] != copy[kept..kept + DIGEST_LEN] {
             return Some(i as u8);
         }
     }
@@ -59,9 +61,9 @@ pub(crate) fn state(layout: Layout, copy: &[u8]) -> CopyState
     if copy[1..9] != start(layout)[..] {
         return CopyState::Bad(Why::BadHeader);
     }
-    let head = 17 + 32 * layout.pages as usize;
+    let head = DIGESTS_AT + DIGEST_LEN * layout.pages as usize;
     let seal = Sha256::digest(&copy[1..head]);
-    if seal[..] != copy[head..head + 32] {
+    if seal[..] != copy[head..head + DIGEST_LEN] {
         return CopyState::Bad(Why::BadRoot);
     }
     match lowest_bad_page(layout, copy) {
@@ -129,12 +131,13 @@ pub(crate) fn read_copies<D: Disk>(
     ensures syncs { (D.state disk.new).syncs ≡ (D.state disk.old).syncs }
     ensures armed { (D.state disk.new).armed ≡ (D.state disk.old).armed }
     ensures fault { OnErr result ((D.state disk.old).is_on ≡ true → Rose (D.state disk.old).faults (D.state disk.new).faults) }
+    ensures run { RunOf 0 result (D.state disk.old) (D.state disk.new) }
 {
     disk.read(layout.a, a)?;
     disk.read(layout.b, b)?;
     let state_a = state(layout, a);
     let state_b = state(layout, b);
-    let first = 49 + 32 * layout.pages as usize;
+    let first = FRAME_LEN + DIGEST_LEN * layout.pages as usize;
     let choice = choose(state_a, state_b, &a[first..], &b[first..]);
     Ok(Read {
         a: state_a,

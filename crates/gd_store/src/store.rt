@@ -23,7 +23,7 @@ pub struct Store<D: Disk> {
 }
 
 impl<D: Disk> Store<D> {
-    ghost use Rattle.std.specs.Prelude.{◌≡◌, ◌*◌, List, ℕ, Some, length, false};
+    ghost use Rattle.std.specs.Prelude.{◌≡◌, ◌*◌, List, ℕ, Some, length, true, false};
     ghost use Rattle.gd_disk.specs.declared.lengths.TheConstants.{PAGE_COUNT, PAGE_LEN};
     ghost use Rattle.gd_store.specs.Copy.{HoldsBoth, boots};
     ghost use Rattle.gd_store.specs.Words.{room_payload, store_disk, store_payload, store_sequence, store_stopped};
@@ -61,11 +61,12 @@ impl<D: Disk> Store<D> {
         self.disk.stops()
     }
 
-    /// Gives the disk and the room back. The room has the payload.
+    /// Gives the disk and the room back. The room has the payload. The disk of a stopped store is off.
     pub fn close(self) -> (D, Room)
         ensures disk { result.0 ≡ store_disk self }
         ensures payload { room_payload result.1 ≡ store_payload self }
         ensures synced { store_stopped self ≡ false → IsSynced (D.state result.0) }
+        ensures off { store_stopped self ≡ true → (D.state result.0).is_on ≡ false }
         ensures settled { store_stopped self ≡ false → (image : List ℕ) → (D.state result.0).seen ≡ Some image → HoldsBoth LAYOUT (store_sequence self) (store_payload self) image }
     {
         (self.disk, self.room)

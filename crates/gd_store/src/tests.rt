@@ -6,9 +6,11 @@ ghost use Rattle.gd_store.specs.Opened.{IsOpenable};
 use crate::sealing::seal_body;
 use crate::{Booted, CopyState, Found, LAYOUT, Made, Opened, Room, Store, Why, boot};
 use gd_disk::{
-    COPY_LEN, CutUnit, DISK_LEN, Disk, LabDisk, MemoryDisk, MemoryLab, PAGE_COUNT, PAGE_LEN,
+    COPY_LEN, CutUnit, DISK_LEN, Disk, FileDisk, LabDisk, MemoryDisk, MemoryLab, PAGE_COUNT,
+    PAGE_LEN,
 };
 use std::alloc::{AllocError, Global};
+use std::fs;
 use std::process::Abort;
 use std::test::Fail;
 
@@ -247,82 +249,301 @@ fn turned_on<L: LabDisk>(rt: &impl Abort, lab: &mut L) -> Result<(), Fail>
     Ok(lab.power_on()?)
 }
 
-fn arm<L: LabDisk>(rt: &impl Abort, lab: &mut L, count: u32, torn: u8) {
-    assert!(rt; lab.cuts_armed() < 256);
-    assert!(rt; count >= 1);
-    assert!(rt; torn <= 3);
-    lab.arm(CutUnit::Call, count, torn);
+// A cut, at call `count` of its unit.
+#[derive(Clone, Copy, Debug, Drop)]
+struct Cut {
+    unit: CutUnit,
+    count: u32,
+    torn: u8,
 }
 
-// A memory at sequence 1, whose next commit is cut at this of its calls. Tells what is found after it.
-fn cut_at<L: LabDisk + Drop>(
+fn arm<L: LabDisk>(rt: &impl Abort, lab: &mut L, cut: Cut) {
+    assert!(rt; lab.cuts_armed() < 256);
+    assert!(rt; cut.count >= 1);
+    assert!(rt; cut.torn <= 3);
+    lab.arm(cut.unit, cut.count, cut.torn);
+}
+
+// A memory at sequence 1 in both copies, off, with a cut armed.
+fn memory<L: LabDisk + Drop>(
     rt: &impl Abort,
     alloc: Global,
     lab: L,
-    count: u32,
-    torn: u8,
-) -> Result<(bool, Found), Fail> {
-    let (mut lab, room) = made(rt, lab, Room::new(alloc)?)?;
-    lab.power_off();
-    turned_on(rt, &mut lab)?;
+    cut: Cut,
+) -> Result<(L, Room), Fail> {
+    let (lab, room) = made(rt, lab, Room::new(alloc)?)?;
     let (mut store, _found) = opened(rt, lab, room)?;
     assert!(rt; commit(rt, &mut store, &payload(alloc, 1)?));
     let (mut lab, room) = store.close();
     lab.power_off();
-    arm(rt, &mut lab, count, torn);
-    turned_on(rt, &mut lab)?;
-    let (mut store, _found) = opened(rt, lab, room)?;
-    let is_committed = commit(rt, &mut store, &payload(alloc, 2)?);
-    let (mut lab, mut room) = store.close();
+    arm(rt, &mut lab, cut);
+    Ok((lab, room))
+}
+
+// What is found after a loss of power now.
+fn found_after<L: LabDisk + Drop>(rt: &impl Abort, lab: L, room: Room) -> Result<Found, Fail> {
+    let mut lab = lab;
+    let mut room = room;
     lab.power_off();
     turned_on(rt, &mut lab)?;
     assert!(rt; lab.len() == DISK_LEN);
     match boot(&mut lab, &mut room) {
-        Booted::Ready { found, sequence: _ } => Ok((is_committed, found)),
-        Booted::Lost(found) => Ok((is_committed, found)),
+        Booted::Ready { found, sequence: _ } => Ok(found),
+        Booted::Lost(found) => Ok(found),
         Booted::Off => Err(Fail::new("off in a boot")),
     }
 }
 
-// What is found after a cut at call `count` of a commit to sequence 2, torn in this way.
-fn left_by(count: u32, torn: u8) -> Found {
-    let old = CopyState::Sound(1);
-    let new = CopyState::Sound(2);
+// Whether a commit to sequence 2 succeeds under a cut, and what is found after it. A commit after it fails by one call.
+fn commit_under<L: LabDisk + Drop>(
+    rt: &impl Abort,
+    alloc: Global,
+    lab: L,
+    cut: Cut,
+) -> Result<(bool, Found), Fail> {
+    let (mut lab, room) = memory(rt, alloc, lab, cut)?;
+    turned_on(rt, &mut lab)?;
+    let (mut store, _found) = opened(rt, lab, room)?;
+    let is_done = commit(rt, &mut store, &payload(alloc, 2)?);
+    if store.is_stopped() {
+        let before = store.stops();
+        assert!(rt; !commit(rt, &mut store, &payload(alloc, 3)?));
+        assert!(rt; store.stops() == before.saturating_add(1));
+    }
+    let (lab, room) = store.close();
+    Ok((is_done, found_after(rt, lab, room)?))
+}
+
+// The same of a making.
+fn make_under<L: LabDisk + Drop>(
+    rt: &impl Abort,
+    alloc: Global,
+    lab: L,
+    cut: Cut,
+) -> Result<(bool, Found), Fail> {
+    let (mut lab, room) = memory(rt, alloc, lab, cut)?;
+    turned_on(rt, &mut lab)?;
+    assert!(rt; lab.len() == DISK_LEN);
+    match Store::make(lab, room) {
+        Made::Done { disk, room } => Ok((true, found_after(rt, disk, room)?)),
+        Made::Off { disk, room } => Ok((false, found_after(rt, disk, room)?)),
+    }
+}
+
+// The same of an opening that repairs a copy, of which the byte at this place was altered.
+fn open_under<L: LabDisk + Drop>(
+    rt: &impl Abort,
+    alloc: Global,
+    lab: L,
+    cut: Cut,
+    at: u64,
+) -> Result<(bool, Found), Fail> {
+    let (mut lab, room) = memory(rt, alloc, lab, cut)?;
+    assert!(rt; !lab.powered());
+    assert!(rt; at < lab.len());
+    lab.alter(at, 1);
+    turned_on(rt, &mut lab)?;
+    assert!(rt; lab.len() == DISK_LEN);
+    match Store::open(lab, room) {
+        Opened::Ready { store, found: _ } => {
+            let (lab, room) = store.close();
+            Ok((true, found_after(rt, lab, room)?))
+        }
+        Opened::Off { disk, room } => Ok((false, found_after(rt, disk, room)?)),
+        Opened::Lost {
+            found: _,
+            disk: _,
+            room: _,
+        } => Err(Fail::new("lost")),
+    }
+}
+
+// What a copy is found to be after a cut at call `call` of the six that write it over another, torn in this way.
+fn written(call: u32, torn: u8, old: CopyState, new: CopyState) -> CopyState {
     let shut = CopyState::Bad(Why::Shut);
-    let is_new_byte = torn == 1;
-    let is_opened = torn == 1 || torn == 3;
-    match count {
-        1 | 2 => Found {
-            a: if is_new_byte { shut } else { old },
+    match call {
+        0 => old,
+        1 | 2 => { if torn == 1 { shut } else { old } }
+        3 | 4 => shut,
+        5 | 6 => { if torn == 1 || torn == 3 { new } else { shut } }
+        _ => new,
+    }
+}
+
+// After a cut at a call of a commit, of which the first six write copy a.
+fn left_by_commit(call: u32, torn: u8) -> Found {
+    let (old, new) = (CopyState::Sound(1), CopyState::Sound(2));
+    Found {
+        a: written(call, torn, old, new),
+        b: written(call.saturating_sub(6), torn, old, new),
+    }
+}
+
+// After one at a call of a making: the first three shut both gates, and four write each copy.
+fn left_by_making(call: u32, torn: u8) -> Found {
+    let (old, new) = (CopyState::Sound(1), CopyState::Sound(0));
+    let shut = CopyState::Bad(Why::Shut);
+    match call {
+        0 | 1 => Found {
+            a: written(call, torn, old, new),
             b: old,
         },
-        3 | 4 => Found { a: shut, b: old },
-        5 | 6 => Found {
-            a: if is_opened { new } else { shut },
-            b: old,
+        2 | 3 => both(written(1, torn, old, new)),
+        _ => Found {
+            a: written(call.saturating_sub(1), torn, shut, new),
+            b: written(call.saturating_sub(5), torn, shut, new),
         },
-        7 | 8 => Found {
-            a: new,
-            b: if is_new_byte { shut } else { old },
-        },
-        9 | 10 => Found { a: new, b: shut },
-        11 | 12 => Found {
-            a: new,
-            b: if is_opened { new } else { shut },
-        },
-        _ => both(new),
+    }
+}
+
+// A cut at call `call`, and one at sync `sync`.
+fn by_calls(call: u32, torn: u8) -> Cut {
+    Cut {
+        unit: CutUnit::Call,
+        count: call,
+        torn,
+    }
+}
+
+fn by_syncs(sync: u32, torn: u8) -> Cut {
+    Cut {
+        unit: CutUnit::Sync,
+        count: sync,
+        torn,
     }
 }
 
 #[test]
 fn a_cut_at_each_call_of_a_commit(rt: HostRuntime) -> Result<(), Fail> {
     for torn in 0..4 {
-        for count in 1..14 {
+        for call in 1..14 {
             let lab = MemoryLab::new(rt.alloc(), DISK_LEN)?;
-            let (is_committed, found) = cut_at(&rt, rt.alloc(), lab, count, torn)?;
-            assert_eq!(rt; is_committed, count == 13, "{count} {torn}");
-            assert_eq!(rt; found, left_by(count, torn), "{count} {torn}");
+            let (is_done, found) = commit_under(&rt, rt.alloc(), lab, by_calls(call, torn))?;
+            assert_eq!(rt; is_done, call == 13, "{call} {torn}");
+            assert_eq!(rt; found, left_by_commit(call, torn), "{call} {torn}");
         }
     }
+    Ok(())
+}
+
+// The syncs of a commit are each second call of it.
+#[test]
+fn a_cut_at_each_sync_of_a_commit(rt: HostRuntime) -> Result<(), Fail> {
+    for torn in 0..4 {
+        for (sync, call) in [(1, 2), (2, 4), (3, 6), (4, 8), (5, 10), (6, 12)] {
+            let lab = MemoryLab::new(rt.alloc(), DISK_LEN)?;
+            let (is_done, found) = commit_under(&rt, rt.alloc(), lab, by_syncs(sync, torn))?;
+            assert!(rt; !is_done, "{sync} {torn}");
+            assert_eq!(rt; found, left_by_commit(call, torn), "{sync} {torn}");
+        }
+    }
+    Ok(())
+}
+
+#[test]
+fn a_cut_at_each_call_of_a_making(rt: HostRuntime) -> Result<(), Fail> {
+    for torn in 0..4 {
+        for call in 1..13 {
+            let lab = MemoryLab::new(rt.alloc(), DISK_LEN)?;
+            let (is_done, found) = make_under(&rt, rt.alloc(), lab, by_calls(call, torn))?;
+            assert_eq!(rt; is_done, call == 12, "{call} {torn}");
+            assert_eq!(rt; found, left_by_making(call, torn), "{call} {torn}");
+        }
+    }
+    Ok(())
+}
+
+#[test]
+fn a_cut_at_each_sync_of_a_making(rt: HostRuntime) -> Result<(), Fail> {
+    for torn in 0..4 {
+        for (sync, call) in [(1, 3), (2, 5), (3, 7), (4, 9), (5, 11)] {
+            let lab = MemoryLab::new(rt.alloc(), DISK_LEN)?;
+            let (is_done, found) = make_under(&rt, rt.alloc(), lab, by_syncs(sync, torn))?;
+            assert!(rt; !is_done, "{sync} {torn}");
+            assert_eq!(rt; found, left_by_making(call, torn), "{sync} {torn}");
+        }
+    }
+    Ok(())
+}
+
+// A byte of page 3 of a copy.
+const PAGE_3: u64 = 1073 + 3 * PAGE_LEN as u64;
+
+#[test]
+fn a_cut_in_a_repair_of_copy_a(rt: HostRuntime) -> Result<(), Fail> {
+    let (bad, sound) = (CopyState::Bad(Why::BadPage(3)), CopyState::Sound(1));
+    for torn in 0..4 {
+        for call in 1..8 {
+            let lab = MemoryLab::new(rt.alloc(), DISK_LEN)?;
+            let cut = by_calls(call, torn);
+            let (is_done, found) = open_under(&rt, rt.alloc(), lab, cut, PAGE_3)?;
+            let a = written(call, torn, bad, sound);
+            assert_eq!(rt; is_done, call == 7, "{call} {torn}");
+            assert_eq!(rt; found, Found { a, b: sound }, "{call} {torn}");
+        }
+    }
+    Ok(())
+}
+
+#[test]
+fn a_cut_in_a_repair_of_copy_b(rt: HostRuntime) -> Result<(), Fail> {
+    let (bad, sound) = (CopyState::Bad(Why::BadPage(3)), CopyState::Sound(1));
+    let at = COPY_LEN as u64 + PAGE_3;
+    for torn in 0..4 {
+        for (sync, call) in [(1, 2), (2, 4), (3, 6), (4, 7)] {
+            let lab = MemoryLab::new(rt.alloc(), DISK_LEN)?;
+            let cut = by_syncs(sync, torn);
+            let (is_done, found) = open_under(&rt, rt.alloc(), lab, cut, at)?;
+            let b = written(call, torn, bad, sound);
+            assert_eq!(rt; is_done, call == 7, "{sync} {torn}");
+            assert_eq!(rt; found, Found { a: sound, b }, "{sync} {torn}");
+        }
+    }
+    Ok(())
+}
+
+// Arms a cut through a store, and commits: whether it succeeds, and how many cuts are armed before and after it.
+fn cut_in_a_store<L: LabDisk + Drop>(
+    rt: &impl Abort,
+    alloc: Global,
+    lab: L,
+) -> Result<(bool, u32, u32), Fail> {
+    let (lab, room) = made(rt, lab, Room::new(alloc)?)?;
+    let (mut store, _found) = opened(rt, lab, room)?;
+    assert!(rt; store.cuts_armed() < 256);
+    store.arm(CutUnit::Sync, 6, 1);
+    let before = store.cuts_armed();
+    let is_done = commit(rt, &mut store, &payload(alloc, 1)?);
+    Ok((is_done, before, store.cuts_armed()))
+}
+
+#[test]
+fn a_cut_armed_through_a_store(rt: HostRuntime) -> Result<(), Fail> {
+    let lab = MemoryLab::new(rt.alloc(), DISK_LEN)?;
+    assert_eq!(rt; cut_in_a_store(&rt, rt.alloc(), lab)?, (false, 1, 0));
+    Ok(())
+}
+
+// The bytes of a disk with no memory.
+fn blank(alloc: Global) -> Result<Vec<u8>, AllocError> {
+    vec![in alloc; 0; DISK_LEN as usize]
+}
+
+// A memory in a file, seen by a second opening and by a read of the file.
+#[test]
+fn keeps_a_payload_in_a_file(rt: HostRuntime) -> Result<(), Fail> {
+    let path = "store_kept";
+    fs::write(&rt, path, blank(rt.alloc())?.as_slice())?;
+    keeps(&rt, rt.alloc(), FileDisk::at(&rt, path))?;
+    let kept = payload(rt.alloc(), 50)?;
+    let (store, found) = opened(&rt, FileDisk::at(&rt, path), Room::new(rt.alloc())?)?;
+    assert_eq!(rt; found, both(CopyState::Sound(1)));
+    assert_eq!(rt; store.stops(), 0);
+    assert!(rt; store.payload() == kept.as_slice());
+    let copy = copy_of(rt.alloc(), sound(1, 50))?;
+    let bytes = fs::read(&rt, path)?;
+    assert!(rt; bytes.starts_with(&copy));
+    assert!(rt; bytes.ends_with(&copy));
+    fs::remove_file(&rt, path)?;
     Ok(())
 }

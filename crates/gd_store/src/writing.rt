@@ -1,6 +1,7 @@
 // Writes to a disk, each kept by a sync of its own.
 ghost use Rattle.std.specs.Prelude.{◌≡◌, ◌≤◌, ◌+◌, ◌<◌, ◌^◌, ◌∷◌, length, OnOk, true, if◌then◌else◌, slice_index};
 ghost use Rattle.gd_disk.specs.Disk.{IfTold, seen_written, Torn, IsSynced, Answers};
+ghost use Rattle.gd_disk.specs.CutRuns.{RunOf};
 ghost use Rattle.gd_disk.specs.Runs.{LeavesOnly, CutsOfRun};
 ghost use Rattle.gd_store.specs.Writing.{seen_shut, IsShutting, IsShut, IsOverOpen, IsWriting, From, MadeSyncs};
 
@@ -15,6 +16,7 @@ fn write_synced<D: Disk>(disk: &mut D, at: u64, bytes: &[u8]) -> Result<(), Off>
     ensures answer { Answers result (D.state disk.old) (D.state disk.new) }
     ensures syncs { MadeSyncs 1 result (D.state disk.old) (D.state disk.new) }
     ensures cuts { CutsOfRun 1 result (D.state disk.old) (D.state disk.new) }
+    ensures run { RunOf 1 result (D.state disk.old) (D.state disk.new) }
 {
     disk.write(at, bytes)?;
     disk.sync()
@@ -36,6 +38,7 @@ fn shut<D: Disk>(disk: &mut D, at: u64, gate: u8) -> Result<(), Off>
     ensures answer { Answers result (D.state disk.old) (D.state disk.new) }
     ensures syncs { MadeSyncs 1 result (D.state disk.old) (D.state disk.new) }
     ensures cuts { CutsOfRun 1 result (D.state disk.old) (D.state disk.new) }
+    ensures run { RunOf 1 result (D.state disk.old) (D.state disk.new) }
 {
     if gate == OPEN {
         write_synced(disk, at, &[SHUT])
@@ -55,6 +58,7 @@ pub(crate) fn shut_open<D: Disk>(disk: &mut D, at: u64, gate: u8) -> Result<(), 
     ensures answer { Answers result (D.state disk.old) (D.state disk.new) }
     ensures syncs { (D.state disk.new).syncs ≡ (D.state disk.old).syncs }
     ensures cuts { CutsOfRun 0 result (D.state disk.old) (D.state disk.new) }
+    ensures run { RunOf 0 result (D.state disk.old) (D.state disk.new) }
 {
     if gate == OPEN {
         return disk.write(at, &[SHUT]);
@@ -74,6 +78,7 @@ pub(crate) fn write_shut<D: Disk>(disk: &mut D, at: u64, body: &[u8]) -> Result<
     ensures answer { Answers result (D.state disk.old) (D.state disk.new) }
     ensures syncs { MadeSyncs 2 result (D.state disk.old) (D.state disk.new) }
     ensures cuts { CutsOfRun 2 result (D.state disk.old) (D.state disk.new) }
+    ensures run { RunOf 2 result (D.state disk.old) (D.state disk.new) }
 {
     write_synced(disk, at + 1, body)?;
     write_synced(disk, at, &[OPEN])
@@ -91,6 +96,7 @@ pub(crate) fn write_copy<D: Disk>(disk: &mut D, at: u64, gate: u8, body: &[u8]) 
     ensures answer { Answers result (D.state disk.old) (D.state disk.new) }
     ensures syncs { MadeSyncs 3 result (D.state disk.old) (D.state disk.new) }
     ensures cuts { CutsOfRun 3 result (D.state disk.old) (D.state disk.new) }
+    ensures run { RunOf 3 result (D.state disk.old) (D.state disk.new) }
 {
     shut(disk, at, gate)?;
     write_shut(disk, at, body)

@@ -1,6 +1,7 @@
 use Rattle.std.proofs.Common.{◌+◌, ◌∷◌, arith}
 use Rattle.std.proofs.lemmas.Result.{on_ok_weaker}
 use Rattle.gd_store.proofs.Commit.{gate_a, gate_b, opened, moments_a, moments_b, both}
+use Rattle.gd_disk.proofs.WholeRuns.{run_on}
 use Rattle.gd_store.proofs.committing.write_both.Goals as goal
 
 pub write_copy-requires-clause-gate : goal.write_copy-requires-clause-gate
@@ -33,3 +34,8 @@ returns-clause-any_moment g c =
     (opened c.args.layout (c.args.sequence + 1) c.args.payload.now c.seal_body.new.body c.seal_body.ensures) (g.D.Disk.state c.args.disk.now) (g.D.Disk.state c.write_copy.new.disk) c.requires.within c.requires.synced c.requires.holds
     (g.D.Disk.state c.write_copy-2.new.disk) c.write_copy.ensures.any_moment c.in_ok-write_copy.ensures.seen c.in_ok-write_copy.ensures.synced c.write_copy.ensures.answer.size
     c.write_copy-2.ensures.any_moment
+
+pub returns-clause-run : goal.returns-clause-run
+returns-clause-run g c =
+    run_on 3 3 c.write_copy-2.result (g.D.Disk.state c.args.disk.now) (g.D.Disk.state c.write_copy.new.disk) (g.D.Disk.state c.write_copy-2.new.disk)
+    c.in_ok-write_copy.ensures.answer.was_on c.in_ok-write_copy.ensures.answer.stays_on c.in_ok-write_copy.ensures.run.whole c.write_copy-2.ensures.run

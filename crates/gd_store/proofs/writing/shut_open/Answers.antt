@@ -1,6 +1,7 @@
 use Rattle.std.proofs.Common.{refl}
 use Rattle.gd_disk.proofs.Cuts.{none_made}
 use Rattle.gd_store.proofs.Makings.{write_run}
+use Rattle.gd_disk.proofs.WholeRuns.{of_write, no_run}
 use Rattle.gd_store.proofs.writing.shut_open.Goals as goal
 
 pub returns-then-gate-eq-OPEN-clause-cuts : goal.returns-then-gate-eq-OPEN-clause-cuts
@@ -8,3 +9,9 @@ returns-then-gate-eq-OPEN-clause-cuts g c = write_run c.write.result (g.D.Disk.s
 
 pub returns-clause-cuts : goal.returns-clause-cuts
 returns-clause-cuts g c = none_made 0 _ (g.D.Disk.state c.args.disk.now) refl
+
+pub returns-then-gate-eq-OPEN-clause-run : goal.returns-then-gate-eq-OPEN-clause-run
+returns-then-gate-eq-OPEN-clause-run g c = of_write c.write.result (g.D.Disk.state c.args.disk.now) (g.D.Disk.state c.write.new.self) c.write.ensures.syncs c.write.ensures.cuts c.write.ensures.answer
+
+pub returns-clause-run : goal.returns-clause-run
+returns-clause-run g c = no_run _ (g.D.Disk.state c.args.disk.now)

@@ -1,0 +1,141 @@
+// A disk over a file.
+ghost use Rattle.std.specs.Prelude.{◌≡◌, IsOk, IsErr, true, false};
+ghost use Rattle.gd_disk.specs.Disk.{Rose};
+
+use crate::{DISK_LEN, Disk, Off};
+use std::fs::File;
+use std::os::unix::fs::FileExt;
+use std::rt::Files;
+
+/// A disk over one file of `DISK_LEN` bytes. It tells none of its content to a contract. A call that the file fails is a
+/// counted failure, and leaves the disk off; a read or a write that is interrupted or cut short is carried on. A sync is
+/// one of the file's data. What the file holds and keeps is the system's word.
+#[derive(Drop)]
+pub struct FileDisk {
+    // none where it couldn't be opened or has another length
+    file: Option<File>,
+    is_on: bool,
+    stops: u64,
+    faults: u64,
+    syncs: u64,
+}
+
+// The file at this path, where it can be read and written and has a disk's length.
+fn opened(files: &impl Files<File = File>, path: &str) -> Option<File> {
+    let file = File::options()
+        .read(true)
+        .write(true)
+        .open(files, path)
+        .ok()?;
+    let found = file.metadata().ok()?;
+    if found.len() == DISK_LEN {
+        Some(file)
+    } else {
+        None
+    }
+}
+
+impl FileDisk {
+    ghost use Rattle.gd_disk.specs.Disk.{IsSynced};
+    ghost use Rattle.gd_disk.specs.Untold.{file_state, HasDoneNothing};
+
+    /// The disk over the file at this path, for reading and writing. It shows as a disk of `DISK_LEN` bytes that is off
+    /// where the file can't be opened or has another length: then each call fails.
+    pub fn at(files: &impl Files<File = File>, path: &str) -> FileDisk
+        ensures fresh { HasDoneNothing (file_state result) }
+        ensures synced { IsSynced (file_state result) }
+    {
+        FileDisk::over(opened(files, path))
+    }
+
+    // The disk over an open file, or one that is off.
+    pub(crate) fn over(file: Option<File>) -> FileDisk
+        ensures { HasDoneNothing (file_state result) }
+    {
+        FileDisk {
+            is_on: file.is_some(),
+            file,
+            stops: 0,
+            faults: 0,
+            syncs: 0,
+        }
+    }
+
+    // Whether the power is on. A call on a disk that is off is counted.
+    fn serves(&mut self) -> bool
+        ensures yes { result ≡ true → (self.old.is_on ≡ true) × (self.new ≡ self.old) }
+        ensures no { result ≡ false → (self.old.is_on ≡ false) × (self.new.is_on ≡ false) × Rose self.old.stops self.new.stops }
+        ensures faults { self.new.faults ≡ self.old.faults }
+        ensures syncs { self.new.syncs ≡ self.old.syncs }
+    {
+        if self.is_on {
+            return true;
+        }
+        self.stops = self.stops.saturating_add(1);
+        false
+    }
+
+    // What a call answers that the file did, or failed to do. A failure is counted, and the power goes off.
+    fn answers(&mut self, is_done: bool) -> Result<(), Off>
+        ensures yes { is_done ≡ true → IsOk result × (self.new ≡ self.old) }
+        ensures no { is_done ≡ false → IsErr result × (self.new.is_on ≡ false) × Rose self.old.stops self.new.stops × Rose self.old.faults self.new.faults }
+        ensures syncs { self.new.syncs ≡ self.old.syncs }
+    {
+        if is_done {
+            return Ok(());
+        }
+        self.is_on = false;
+        self.faults = self.faults.saturating_add(1);
+        self.stops = self.stops.saturating_add(1);
+        Err(Off)
+    }
+}
+
+impl Disk for FileDisk {
+    ghost use Rattle.gd_disk.specs.Untold.{file_state};
+
+    ghost state = { file_state };
+
+    fn len(&self) -> u64 {
+        DISK_LEN
+    }
+
+    fn stops(&self) -> u64 {
+        self.stops
+    }
+
+    fn read(&mut self, at: u64, into: &mut [u8]) -> Result<(), Off> {
+        if !self.serves() {
+            return Err(Off);
+        }
+        let is_done = match &self.file {
+            Some(file) => file.read_exact_at(into, at).is_ok(),
+            None => false,
+        };
+        self.answers(is_done)
+    }
+
+    fn write(&mut self, at: u64, bytes: &[u8]) -> Result<(), Off> {
+        if !self.serves() {
+            return Err(Off);
+        }
+        let is_done = match &self.file {
+            Some(file) => file.write_all_at(bytes, at).is_ok(),
+            None => false,
+        };
+        self.answers(is_done)
+    }
+
+    fn sync(&mut self) -> Result<(), Off> {
+        if !self.serves() {
+            return Err(Off);
+        }
+        let is_done = match &self.file {
+            Some(file) => self.syncs < u64::MAX && file.sync_data().is_ok(),
+            None => false,
+        };
+        self.answers(is_done)?;
+        self.syncs += 1;
+        Ok(())
+    }
+}
