@@ -1,6 +1,6 @@
 // What no clause says: what the built-in tables are, and what some blocks show and win under them.
 use crate::{line_pay, prize, scatter_count, window};
-use gd_base::{Block, LINES, REEL_PAYS, STRIPS, Setup};
+use gd_base::{Block, LINES, PRIZES, REEL_PAYS, STRIPS, Setup};
 use std::process::Abort;
 
 fn built_in() -> Setup {
@@ -18,7 +18,7 @@ fn built_in() -> Setup {
         reels_enabled: true,
         strips: STRIPS,
         reel_pays: REEL_PAYS,
-        prizes: [2, 4, 6, 10, 20],
+        prizes: PRIZES,
         poker_enabled: true,
         poker_pays: [250, 50, 25, 9, 6, 4, 3, 2, 1],
     }
