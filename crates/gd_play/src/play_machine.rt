@@ -1,6 +1,6 @@
 //! The machine of one play.
 
-ghost use Rattle.std.specs.Prelude.{◌≡◌, ◌<◌, ◌+◌, ◌*◌, ◌^◌, IsTrue, IsSome, OnOk, OnErr, IfOk, Option, Some, None, option_map, option_copied};
+ghost use Rattle.std.specs.Prelude.{◌≡◌, IsTrue, IsSome, OnOk, OnErr, IfOk, Some, None, option_map, option_copied};
 ghost use Rattle.gd_base.specs.Spelling.{open_is};
 ghost use Rattle.gd_play.specs.Moving.{phase_of};
 ghost use Rattle.gd_play.specs.Rules.{are_kept, is_open_play};
