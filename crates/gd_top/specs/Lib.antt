@@ -18,3 +18,4 @@ pub mod Reads
 pub mod Memory
 pub mod Trial
 pub mod Statuses
+pub mod Reels
