@@ -33,3 +33,4 @@ pub mod OneSpelled
 pub mod Exact
 pub mod Whole
 pub mod Kept
+pub mod KeyStream

@@ -29,6 +29,7 @@ pub mod ViewCode
 pub mod TheMachine
 pub mod SoFar
 pub mod Causes
+pub mod KeyStream
 pub mod Outside
 pub mod ChanceRows
 pub mod HistoryRows

@@ -8,6 +8,7 @@ pub mod laws;
 mod machine_core;
 mod names;
 mod play;
+mod seeded;
 mod setup;
 mod sink;
 mod source;
@@ -26,9 +27,10 @@ pub use play::{
     BILLS_KEPT, BillRecord, Block, Choices, EVENTS_KEPT, EventRecord, Handpay, Order, OrderKind,
     PLAYS_KEPT, PlayRecord, Rank, Stage, StageOpen, VOUCHERS_KEPT, VoucherRecord,
 };
+pub use seeded::ChaChaDraws;
 pub use setup::Setup;
 pub use sink::{MemorySink, Sink, Writing};
 pub use source::{Failed, MemorySource, Reading, Source};
 pub use step::{Loaded, Numbered, Stepped, What};
-pub use tables::{LINES, REEL_PAYS, RUNS, STRIPS, SYMBOLS};
+pub use tables::{LINES, PRIZES, REEL_PAYS, RUNS, STRIPS, SYMBOLS};
 pub use text::{TEXT_LEN, Text, push_meter, push_meters, push_number, push_reply};

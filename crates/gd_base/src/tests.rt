@@ -1,7 +1,8 @@
 // What no clause says: that calls succeed, and what the adapters make of a reader and a writer that fail in mid-stream.
 use crate::{
-    Colour, Condition, Device, Draws, Event, ListDraws, MemorySink, MemorySource, Meter, Reading,
-    Refusal, Reply, Sink, Source, Text, Writing, push_meters, push_number, push_reply,
+    Block, ChaChaDraws, Colour, Condition, Device, Draws, Event, ListDraws, MemorySink,
+    MemorySource, Meter, Reading, Refusal, Reply, Sink, Source, Text, Writing, push_meters,
+    push_number, push_reply,
 };
 use std::alloc::Global;
 use std::io;
@@ -207,6 +208,91 @@ fn listed_blocks_stand_in_lap_0_alone(rt: HostRuntime) -> Result<(), Fail> {
     assert_eq!(rt; first_word(&mut draws, 1, 1), 0);
     assert_eq!(rt; draws.block(0, 1), [8; 16]);
     Ok(())
+}
+
+fn whole_block<W: Draws>(draws: &mut W, lap: u64, index: u64) -> Block {
+    draws.block(lap, index)
+}
+
+#[test]
+fn the_first_block_of_seed_0_is_the_key_stream_of_the_zero_key(rt: HostRuntime) {
+    let mut draws = ChaChaDraws::new(0);
+    assert_eq!(rt;
+        whole_block(&mut draws, 0, 0),
+        [
+            0x903df1a0ade0b876,
+            0x28bd8653e56a5d40,
+            0x1aed8da0b819d2bd,
+            0xc70d778bccef36a8,
+            0x8d4857517c5941da,
+            0x374ad8b83fe02477,
+            0x1ca11815f4b8436a,
+            0x8665eeb269b687c3,
+            0x7a385155bee7079f,
+            0x0d082d737c97ba98,
+            0x6965e348a0290fcb,
+            0xed7aee323e53c612,
+            0x434ee69c7621b729,
+            0xd539d874b03371d5,
+            0x45fb0a51281fed31,
+            0x6f4d794b1f0ae1ac,
+        ]
+    );
+}
+
+// By an implementation of ChaCha20 that isn't the program's.
+#[test]
+fn blocks_are_those_of_seed_lap_and_index(rt: HostRuntime) {
+    let mut draws = ChaChaDraws::new(1);
+    assert_eq!(rt; first_word(&mut draws, 0, 1), 0x865f08a2383e30bd);
+    assert_eq!(rt;
+        whole_block(&mut draws, 2, 3),
+        [
+            0x195b4331b05e5bd8,
+            0x649381d172f5d00c,
+            0xf75753eadfb5b8a5,
+            0x3411a01324844c51,
+            0x0c0df2deefc7b4f7,
+            0x0df65b7c564982e6,
+            0x8caae3f4fa8ec1ca,
+            0x1a22639ea94767da,
+            0xc330cde5323d0255,
+            0x390ce1f11925d648,
+            0x770a82cf205313ff,
+            0xd47b45811eba9165,
+            0x2443543649ec2995,
+            0xc655e2a4b388ce38,
+            0xb6bc2d922cafdf00,
+            0xce114ddacec8351f,
+        ]
+    );
+    assert_eq!(rt; first_word(&mut draws, 0, 1), 0x865f08a2383e30bd);
+}
+
+#[test]
+fn the_last_block_of_the_last_stream_is_there(rt: HostRuntime) {
+    let mut draws = ChaChaDraws::new(0x0123456789abcdef);
+    assert_eq!(rt;
+        whole_block(&mut draws, u64::MAX, u64::MAX),
+        [
+            0x6ad434e085c4d102,
+            0x220f603c1da7a526,
+            0xbd32be964209b615,
+            0x7fb3cddeb14ccc46,
+            0x0ad49ad7eb5c1dc2,
+            0xc94f0a285dca4c87,
+            0x7529b1acfd87a512,
+            0x187301c94083b3f3,
+            0x22cfa4e3f801fbf3,
+            0xff7c33527aaad93e,
+            0x60789a73c82458eb,
+            0x2d378f3e9c2c47fd,
+            0x8af8a15e2a422762,
+            0x5051d86321c43b52,
+            0x8f154e0f09cd09e2,
+            0xd80d34d9f6e09703,
+        ]
+    );
 }
 
 // ================ texts

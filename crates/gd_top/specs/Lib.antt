@@ -18,3 +18,4 @@ pub mod Script
 pub mod Reads
 pub mod Trial
 pub mod Statuses
+pub mod Reels

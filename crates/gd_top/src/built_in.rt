@@ -3,7 +3,7 @@
 ghost use Rattle.std.specs.Prelude.{◌≡◌};
 ghost use Rattle.gd_base.specs.BuiltIn.{built_in_setup};
 
-use gd_base::{REEL_PAYS, STRIPS, Setup};
+use gd_base::{PRIZES, REEL_PAYS, STRIPS, Setup};
 
 /// The built-in setup. docs/FORMATS.md shows it.
 pub(crate) fn built_in() -> Setup
@@ -23,7 +23,7 @@ pub(crate) fn built_in() -> Setup
         reels_enabled: true,
         strips: STRIPS,
         reel_pays: REEL_PAYS,
-        prizes: [2, 4, 6, 10, 20],
+        prizes: PRIZES,
         poker_enabled: true,
         poker_pays: [250, 50, 25, 9, 6, 4, 3, 2, 1],
     }

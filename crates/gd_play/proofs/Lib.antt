@@ -1,0 +1,4 @@
+pub mod Fresh
+pub mod Held
+pub mod Phases
+pub mod Turns

@@ -1,0 +1,58 @@
+-- What a machine's play is in a history: an event is judged by the rule, and the play that is open then is the history's.
+use Rattle.std.specs.Prelude.{◌≡◌, ℕ, Bool, true, false, IsTrue, if◌then◌else◌, Option, Some, None, option_map}
+use Rattle.gd_base.specs.declared.event.Event.{Event}
+use Rattle.gd_base.specs.declared.play.PlayRecord.{PlayRecord}
+use Rattle.gd_base.specs.declared.play.StageOpen.{StageOpen}
+use Rattle.gd_base.specs.declared.setup.Setup.{Setup}
+use Rattle.gd_base.specs.Conditions.{lock}
+use Rattle.gd_base.specs.Credit.{wager}
+use Rattle.gd_base.specs.Entry.{Entry, is_taken}
+use Rattle.gd_base.specs.Recall.{play_record}
+use Rattle.gd_base.specs.Rounds.{Round, round_of, choices_of, no_choices, open_after, ended_after, moved, is_over}
+use Rattle.gd_base.specs.Rule.{rule}
+use Rattle.gd_base.specs.Stage.{is_phase}
+use Rattle.gd_base.specs.View.{View}
+use Rattle.gd_play.specs.Judging.{refusal, reply_of}
+use Rattle.gd_play.specs.Moving.{replayed, play_after, phase_after, phase_of}
+
+-- the events that move an open play on
+abbrev pub is_move : Event → Bool
+is_move (Event.Pick door) = true
+is_move (Event.Hold mask) = true
+is_move (Event.Gamble colour) = true
+is_move Event.Take = true
+is_move _ = false
+
+-- Where nothing locks the machine up, the rule's reply is that of the machine with the open play.
+abbrev pub JudgesAsRule : Type 0
+JudgesAsRule =
+    (setup : Setup) (v : View) (event : Event) → IsTrue (is_move event) → lock v ≡ None
+    → rule setup v event ≡ reply_of (refusal v.play (phase_of setup v.play) event)
+
+-- the round of a play, by whether it has ended
+abbrev pub going_on : StageOpen → Option PlayRecord → Option Round
+going_on phase play = if is_phase phase StageOpen.Ended then None else option_map round_of play
+
+abbrev pub gone : StageOpen → Option PlayRecord → Option Round
+gone phase play = if is_phase phase StageOpen.Ended then option_map round_of play else None
+
+-- After a taken event the machine's play is the history's open one, or the one that the entry ended.
+abbrev pub MovesAsHistory : Type 0
+MovesAsHistory =
+    (setup : Setup) (e : Entry) (place : ℕ) (play : Option PlayRecord) → IsTrue (is_move e.event) → IsTrue (is_taken e.reply)
+    → (open_after setup e place (option_map round_of play) ≡ going_on (phase_after setup e.event play) (play_after setup e.event play))
+    × (ended_after setup e place (option_map round_of play) ≡ gone (phase_after setup e.event play) (play_after setup e.event play))
+
+-- A play that begins is the round that its Play opens in a history, and it is over exactly where that Play ends it.
+abbrev pub BeginsAsHistory : Type 0
+BeginsAsHistory =
+    (setup : Setup) (p : PlayRecord) → choices_of p ≡ no_choices
+    → (moved p.place (Some (p.index, p.words)) None (Event.Play p.game p.bet) ≡ Some (round_of p))
+    × (is_phase (phase_of setup (Some p)) StageOpen.Ended ≡ is_over setup (Event.Play p.game p.bet) (round_of p))
+
+-- Its record is the history's, where it has the wager of its bet.
+abbrev pub KeepsRecord : Type 0
+KeepsRecord =
+    (setup : Setup) (p : PlayRecord) (event : Event) (r : Round) → p.wager ≡ wager setup p.bet
+    → (replayed setup p (round_of p) ≡ play_record setup (p.number, p.before) p.after (round_of p))
+    × (IsTrue (is_move event) → moved p.place None (Some (round_of p)) event ≡ Some r → replayed setup p r ≡ play_record setup (p.number, p.before) p.after r)

@@ -1,0 +1,5 @@
+pub mod Histories
+pub mod Judging
+pub mod Moving
+pub mod Rules
+pub mod Words

@@ -1,0 +1,17 @@
+-- What a play machine holds. Public clauses speak by these words.
+use Rattle.std.specs.Prelude.{Option}
+use Rattle.gd_base.specs.declared.play.PlayRecord.{PlayRecord}
+use Rattle.gd_base.specs.declared.play.StageOpen.{StageOpen}
+use Rattle.gd_play.specs.declared.play_machine.PlayMachine.{PlayMachine}
+
+-- the paytable of a machine
+abbrev pub machine_table : {P : Type 0} {g : _} → PlayMachine P g → P
+machine_table machine = machine.table
+
+-- the play that was begun and not yet handed out
+abbrev pub machine_play : {P : Type 0} {g : _} → PlayMachine P g → Option PlayRecord
+machine_play machine = machine.play
+
+-- the stage that is open in it, Ended where it is over or there is none
+abbrev pub machine_phase : {P : Type 0} {g : _} → PlayMachine P g → StageOpen
+machine_phase machine = machine.phase
