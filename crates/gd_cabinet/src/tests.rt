@@ -4,6 +4,7 @@ ghost use Rattle.std.specs.Coded.{coded_ℕ};
 ghost use Rattle.std.specs.Int.{w64, from_be_bytes};
 ghost use Rattle.gd_disk.specs.Disk.{IsSynced};
 ghost use Rattle.gd_base.specs.Spelled.{Shows, Foreign, Unreadable};
+ghost use Rattle.gd_base.specs.TheMachine.{number_itself};
 ghost use Rattle.gd_base.specs.declared.event.Reply.{Reply};
 ghost use Rattle.gd_store.specs.Opened.{IsOpenable};
 
@@ -48,6 +49,7 @@ impl Core for Tally {
           else if from_be_bytes w64 (take 8 p) == 2 ^ 64 - 1 then Foreign (replicate 32 7) else Unreadable;
       count_empty = refl;
       count_effect = λ v e. refl;
+      same_itself = number_itself;
     } };
 
     ghost view = { λ t. t.count };

@@ -1,6 +1,7 @@
 -- What an image shows that has a view in both copies.
-use Rattle.std.proofs.Common.{◌≡◌, ◌∙◌, ap, sym, subst, refl, inl, inr, ℕ, List, arith, Option, Some}
+use Rattle.std.proofs.Common.{◌≡◌, ◌∙◌, ap, sym, subst, refl, inl, inr, ℕ, List, arith, Option, Some, All, [], ◌∷◌, ◌++◌}
 use Rattle.std.proofs.lemmas.Bool.Decides.{nat_tests}
+use Rattle.std.proofs.lemmas.List.Elements.{All-append, All-cons, All-nil}
 use Rattle.gd_base.specs.Machine.{Machine, Blocks}
 use Rattle.gd_base.specs.Opens.{opens}
 use Rattle.gd_base.specs.Spelled.{Shows, Foreign, Unreadable}
@@ -17,6 +18,7 @@ use Rattle.gd_store.specs.declared.layout.TheConstants.{LAYOUT}
 use Rattle.gd_store.proofs.Sealed.{same_bytes}
 use Rattle.gd_top.specs.Carrying.{ShowsNear}
 use Rattle.gd_top.specs.Running.{IsSettled}
+use Rattle.gd_top.specs.Starts.{IsShown, KeepsShown}
 
 both_boot : (m : ℕ) (p : List ℕ) (s t : CopyState) (q r : List ℕ) → s ≡ CopyState.Sound m → t ≡ CopyState.Sound m → q ≡ p → r ≡ p → chosen s t q r ≡ Some (m, p)
 both_boot m p s t q r is_s is_t is_q is_r =
@@ -104,3 +106,19 @@ module _ {V : Type 0} (M : Machine V) (B : Blocks) where
       by_moment : IsOpening M B 0 mid c → ShowsEither M v (started M B 0 v) c
       by_moment (inl kept) = inl (kept.2 ∙ was kept.0 kept.1)
       by_moment (inr other) = subst (λ (u : V). ShowsEither M u (started M B 0 u) c) (shown_is other.0 other.1) other.2
+
+-- ================ images that show a view
+
+module _ {V : Type 0} (M : Machine V) where
+  -- none was found
+  pub still_shown : (old new : DiskState) → new.found ≡ old.found → KeepsShown M old new
+  still_shown old new e h = subst (All (IsShown M)) (sym e) h
+
+  -- one was found, which shows a view
+  pub one_more_shown : (old new : DiskState) (image : List ℕ) (v : V) → new.found ≡ old.found ++ image ∷ [] → shows M image ≡ Shows v → KeepsShown M old new
+  one_more_shown old new image v e shown h =
+      subst (All (IsShown M)) (sym e) (All-append (IsShown M) old.found (image ∷ []) h (All-cons (IsShown M) image [] (v, shown) (All-nil (IsShown M))))
+
+  -- before any was found
+  pub none_shown : (disk : DiskState) → disk.found ≡ [] → All (IsShown M) disk.found
+  none_shown disk e = subst (All (IsShown M)) (sym e) (All-nil (IsShown M))

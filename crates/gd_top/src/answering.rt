@@ -8,6 +8,7 @@ ghost use Rattle.gd_top.specs.Answered.{answer_text};
 ghost use Rattle.gd_top.specs.Carrying.{outside, standing, CarriesBy};
 ghost use Rattle.gd_top.specs.Items.{event_told};
 ghost use Rattle.gd_top.specs.Running.{IsOpen, Leaves, Wrote};
+ghost use Rattle.gd_top.specs.Starts.{KeepsShown};
 ghost use Rattle.gd_top.specs.State.{On};
 
 use crate::giving::give_text;
@@ -50,6 +51,7 @@ pub(crate) fn carry_event<C: Core, K: Sink, L: LabDisk, W: Draws>(
     ensures leaves { Leaves result (IsOpen (C.meaning (cabinet_core cabinet.old)) (C.view (cabinet_core cabinet.new)) (L.state (cabinet_disk cabinet.new)) (cabinet_stopped cabinet.new) (cabinet_lap cabinet.new))
         (L.state (cabinet_disk cabinet.old)) (L.state (cabinet_disk cabinet.new)) }
     ensures wrote { Wrote result (K.faults output.old) (K.faults output.new) }
+    ensures shown { KeepsShown (C.meaning (cabinet_core cabinet.old)) (L.state (cabinet_disk cabinet.old)) (L.state (cabinet_disk cabinet.new)) }
     ensures meaning { C.meaning (cabinet_core cabinet.new) ≡ C.meaning (cabinet_core cabinet.old) }
     ensures draws { (l i : ℕ) → W.block_of (cabinet_draws cabinet.new) l i ≡ W.block_of (cabinet_draws cabinet.old) l i }
 {

@@ -7,6 +7,7 @@ ghost use Rattle.gd_top.specs.Items.{item_told, line_told};
 ghost use Rattle.gd_top.specs.Running.{IsClosed, IsOpen, Leaves, Stands, Wrote};
 ghost use Rattle.gd_top.specs.Script.{line_of};
 ghost use Rattle.gd_top.specs.Served.{is_served, after_line, next_of};
+ghost use Rattle.gd_top.specs.Starts.{KeepsShown};
 ghost use Rattle.gd_top.specs.State.{On as PowerOn, Off as PowerOff};
 ghost use Rattle.gd_top.specs.Words.{memory_core, memory_disk, memory_draws, memory_lap, memory_phase, memory_stopped};
 
@@ -62,6 +63,7 @@ fn carry_powered<C: Core, K: Sink, L: LabDisk, W: Draws>(
     ensures leaves { Leaves result (IsOpen (C.meaning (cabinet_core cabinet.old)) (C.view (cabinet_core cabinet.new)) (L.state (cabinet_disk cabinet.new)) (cabinet_stopped cabinet.new) (cabinet_lap cabinet.new))
         (L.state (cabinet_disk cabinet.old)) (L.state (cabinet_disk cabinet.new)) }
     ensures wrote { Wrote result (K.faults output.old) (K.faults output.new) }
+    ensures shown { KeepsShown (C.meaning (cabinet_core cabinet.old)) (L.state (cabinet_disk cabinet.old)) (L.state (cabinet_disk cabinet.new)) }
     ensures meaning { C.meaning (cabinet_core cabinet.new) ≡ C.meaning (cabinet_core cabinet.old) }
     ensures draws { (l i : ℕ) → W.block_of (cabinet_draws cabinet.new) l i ≡ W.block_of (cabinet_draws cabinet.old) l i }
 {
@@ -96,6 +98,7 @@ fn carry_on<C: Core, K: Sink, L: LabDisk, W: Draws>(
     ensures leaves { Leaves result.step (Stands (C.meaning (cabinet_core cabinet)) (C.view (memory_core result.run.memory)) (memory_phase result.run.memory)
         (L.state (memory_disk result.run.memory)) (memory_stopped result.run.memory) (memory_lap result.run.memory)) (L.state (cabinet_disk cabinet)) (L.state (memory_disk result.run.memory)) }
     ensures wrote { Wrote result.step (K.faults output.old) (K.faults output.new) }
+    ensures shown { KeepsShown (C.meaning (cabinet_core cabinet)) (L.state (cabinet_disk cabinet)) (L.state (memory_disk result.run.memory)) }
     ensures meaning { C.meaning (memory_core result.run.memory) ≡ C.meaning (cabinet_core cabinet) }
     ensures draws { (l i : ℕ) → W.block_of (memory_draws result.run.memory) l i ≡ W.block_of (cabinet_draws cabinet) l i }
 {
@@ -131,6 +134,7 @@ fn carry_off<C: Core, K: Sink, L: LabDisk, W: Draws>(
     ensures leaves { Leaves result.step (Stands (C.meaning parts.core) (C.view (memory_core result.run.memory)) (memory_phase result.run.memory)
         (L.state (memory_disk result.run.memory)) (memory_stopped result.run.memory) (memory_lap result.run.memory)) (L.state parts.disk) (L.state (memory_disk result.run.memory)) }
     ensures wrote { Wrote result.step (K.faults output.old) (K.faults output.new) }
+    ensures shown { KeepsShown (C.meaning parts.core) (L.state parts.disk) (L.state (memory_disk result.run.memory)) }
     ensures meaning { C.meaning (memory_core result.run.memory) ≡ C.meaning parts.core }
     ensures draws { (l i : ℕ) → W.block_of (memory_draws result.run.memory) l i ≡ W.block_of parts.draws l i }
 {
@@ -169,6 +173,7 @@ fn carry_item<C: Core, K: Sink, L: LabDisk, W: Draws>(
     ensures leaves { Leaves result.step (Stands (C.meaning (memory_core run.memory)) (C.view (memory_core result.run.memory)) (memory_phase result.run.memory)
         (L.state (memory_disk result.run.memory)) (memory_stopped result.run.memory) (memory_lap result.run.memory)) (L.state (memory_disk run.memory)) (L.state (memory_disk result.run.memory)) }
     ensures wrote { Wrote result.step (K.faults output.old) (K.faults output.new) }
+    ensures shown { KeepsShown (C.meaning (memory_core run.memory)) (L.state (memory_disk run.memory)) (L.state (memory_disk result.run.memory)) }
     ensures meaning { C.meaning (memory_core result.run.memory) ≡ C.meaning (memory_core run.memory) }
     ensures draws { (l i : ℕ) → W.block_of (memory_draws result.run.memory) l i ≡ W.block_of (memory_draws run.memory) l i }
 {
@@ -195,6 +200,7 @@ pub(crate) fn carry_line<C: Core, K: Sink, L: LabDisk, W: Draws>(
     ensures leaves { Leaves result.step (Stands (C.meaning (memory_core run.memory)) (C.view (memory_core result.run.memory)) (memory_phase result.run.memory)
         (L.state (memory_disk result.run.memory)) (memory_stopped result.run.memory) (memory_lap result.run.memory)) (L.state (memory_disk run.memory)) (L.state (memory_disk result.run.memory)) }
     ensures wrote { Wrote result.step (K.faults output.old) (K.faults output.new) }
+    ensures shown { KeepsShown (C.meaning (memory_core run.memory)) (L.state (memory_disk run.memory)) (L.state (memory_disk result.run.memory)) }
     ensures meaning { C.meaning (memory_core result.run.memory) ≡ C.meaning (memory_core run.memory) }
     ensures draws { (l i : ℕ) → W.block_of (memory_draws result.run.memory) l i ≡ W.block_of (memory_draws run.memory) l i }
 {

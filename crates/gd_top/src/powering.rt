@@ -1,15 +1,16 @@
 //! The power, turned on and off by a line.
 
-ghost use Rattle.std.specs.Prelude.{◌≡◌, ◌<◌, ◌++◌, ℕ, Bool, true, false, if◌then◌else◌};
+ghost use Rattle.std.specs.Prelude.{◌≡◌, ◌<◌, ◌++◌, ℕ};
+ghost use Rattle.gd_base.specs.Answer.{is_full};
 ghost use Rattle.gd_cabinet.specs.Words.{cabinet_core, cabinet_disk, cabinet_draws, cabinet_lap, cabinet_stopped};
+ghost use Rattle.gd_script.specs.declared.item.Item.{Item};
 ghost use Rattle.gd_store.specs.Repair.{repaired};
 ghost use Rattle.gd_top.specs.Carrying.{outside, standing, CarriesBy, GivesText};
-ghost use Rattle.gd_base.specs.Answer.{is_full};
-ghost use Rattle.gd_script.specs.declared.item.Item.{Item};
 ghost use Rattle.gd_top.specs.Items.{item_told};
 ghost use Rattle.gd_top.specs.Lines.{power_line, start_text};
 ghost use Rattle.gd_top.specs.Openings.{power_on, Nothing, Done};
 ghost use Rattle.gd_top.specs.Running.{IsClosed, IsOpen, Leaves, Stands, GivesBroken, Wrote};
+ghost use Rattle.gd_top.specs.Starts.{KeepsShown};
 ghost use Rattle.gd_top.specs.State.{On as PowerOn, Off as PowerOff};
 ghost use Rattle.gd_top.specs.Words.{memory_core, memory_disk, memory_draws, memory_lap, memory_phase, memory_stopped};
 
@@ -77,6 +78,7 @@ pub(crate) fn open_memory<C: Core, K: Sink, L: LabDisk, W: Draws>(
         (L.state (memory_disk result.run.memory)) (memory_stopped result.run.memory) (memory_lap result.run.memory)) (L.state parts.disk) (L.state (memory_disk result.run.memory)) }
     ensures wrote { Wrote result.step (K.faults output.old) (K.faults output.new) }
     ensures no_stop { result.step ≡ Step.Stops → ⊥ }
+    ensures shown { KeepsShown (C.meaning parts.core) (L.state parts.disk) (L.state (memory_disk result.run.memory)) }
     ensures meaning { C.meaning (memory_core result.run.memory) ≡ C.meaning parts.core }
     ensures draws { (l i : ℕ) → W.block_of (memory_draws result.run.memory) l i ≡ W.block_of parts.draws l i }
 {
@@ -134,6 +136,7 @@ pub(crate) fn turn_on<C: Core, K: Sink, L: LabDisk, W: Draws>(
     ensures leaves { Leaves result.step (Stands (C.meaning parts.core) (C.view (memory_core result.run.memory)) (memory_phase result.run.memory)
         (L.state (memory_disk result.run.memory)) (memory_stopped result.run.memory) (memory_lap result.run.memory)) (L.state parts.disk) (L.state (memory_disk result.run.memory)) }
     ensures wrote { Wrote result.step (K.faults output.old) (K.faults output.new) }
+    ensures shown { KeepsShown (C.meaning parts.core) (L.state parts.disk) (L.state (memory_disk result.run.memory)) }
     ensures meaning { C.meaning (memory_core result.run.memory) ≡ C.meaning parts.core }
     ensures draws { (l i : ℕ) → W.block_of (memory_draws result.run.memory) l i ≡ W.block_of parts.draws l i }
 {
@@ -164,6 +167,7 @@ pub(crate) fn turn_off<C: Core, K: Sink, L: LabDisk, W: Draws>(
     ensures leaves { Leaves result.step (Stands (C.meaning (cabinet_core cabinet)) (C.view (memory_core result.run.memory)) (memory_phase result.run.memory)
         (L.state (memory_disk result.run.memory)) (memory_stopped result.run.memory) (memory_lap result.run.memory)) (L.state (cabinet_disk cabinet)) (L.state (memory_disk result.run.memory)) }
     ensures wrote { Wrote result.step (K.faults output.old) (K.faults output.new) }
+    ensures shown { KeepsShown (C.meaning (cabinet_core cabinet)) (L.state (cabinet_disk cabinet)) (L.state (memory_disk result.run.memory)) }
     ensures meaning { C.meaning (memory_core result.run.memory) ≡ C.meaning (cabinet_core cabinet) }
     ensures draws { (l i : ℕ) → W.block_of (memory_draws result.run.memory) l i ≡ W.block_of (cabinet_draws cabinet) l i }
 {

@@ -5,6 +5,7 @@ ghost use Rattle.gd_base.specs.Causes.{Rose};
 ghost use Rattle.gd_top.specs.Carrying.{outside, standing};
 ghost use Rattle.gd_top.specs.LinesDone.{LinesDone, step_of};
 ghost use Rattle.gd_top.specs.Running.{Leaves, Stands, Wrote};
+ghost use Rattle.gd_top.specs.Starts.{KeepsShown};
 ghost use Rattle.gd_top.specs.Words.{memory_core, memory_disk, memory_draws, memory_lap, memory_phase, memory_stopped};
 
 use crate::ahead::Ahead;
@@ -35,6 +36,7 @@ pub(crate) fn carry_lines<C: Core, S: Source, K: Sink, L: LabDisk, W: Draws>(
     ensures few { result.lines ≤ MOST_LINES }
     ensures read { result.end ≡ LinesEnd.ReadFault → Rose (S.faults input.old) (S.faults input.new) }
     ensures later { S.faults input.old ≤ S.faults input.new }
+    ensures shown { KeepsShown (C.meaning (memory_core run.memory)) (L.state (memory_disk run.memory)) (L.state (memory_disk result.run.memory)) }
     ensures meaning { C.meaning (memory_core result.run.memory) ≡ C.meaning (memory_core run.memory) }
     ensures draws { (l i : ℕ) → W.block_of (memory_draws result.run.memory) l i ≡ W.block_of (memory_draws run.memory) l i }
 {

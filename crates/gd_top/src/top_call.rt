@@ -1,11 +1,12 @@
 //! The top call.
 
-ghost use Rattle.std.specs.Prelude.{◌≡◌, ◌≢◌, ◌⊎◌, ◌≤◌, true, false, [], List, ℕ, IfSome};
+ghost use Rattle.std.specs.Prelude.{◌≡◌, ◌≢◌, ◌⊎◌, ◌≤◌, true, false, [], List, ℕ, All, IfSome};
 ghost use Rattle.std.specs.Io.KnownBytes.{Appends};
 ghost use Rattle.gd_base.specs.BuiltIn.{built_in_setup};
 ghost use Rattle.gd_base.specs.Causes.{Rose};
 ghost use Rattle.gd_base.specs.SoFar.{machine_so_far};
 ghost use Rattle.gd_top.specs.Books.{view_of};
+ghost use Rattle.gd_top.specs.Starts.{IsShown};
 ghost use Rattle.gd_top.specs.Trial.{is_trial, no_memory_text, usage_text, GivesLast, WroteBroken, WroteFront, WroteReport, WroteToFault, WroteFrontOf, CabinetDone, IsBuilt, IsUnopened, told_status};
 
 use crate::bill_core::BillCore;
@@ -95,6 +96,7 @@ fn command<S: Source, K: Sink, L: LabDisk, D: Disk, W: Draws>(
     ensures read_cause { result.status ≡ Status.ReadFault → Rose (S.faults input.old) (S.faults input.new) }
     ensures write_cause { result.status ≡ Status.WriteFault → Rose (K.faults output.old) (K.faults output.new) }
     ensures disk_cause { result.status ≡ Status.DiskFault → Rose (L.state lab).faults (L.state result.lab).faults }
+    ensures shown { All (IsShown (machine_so_far built_in_setup)) (L.state result.lab).found }
     ensures exact { is_trial words.now ≡ true → (result.status ≡ Status.ReadFault → ⊥) → (result.status ≡ Status.WriteFault → ⊥) → (result.status ≡ Status.DiskFault → ⊥)
         → (result.status ≡ Status.OutOfMemory) ⊎ IfSome (S.left input.old) (λ script. result.status ≡ told_status (machine_so_far built_in_setup) (W.block_of draws) script (L.state result.lab)) }
     ensures unopened { IsUnopened result.status → (result.lab ≡ lab) × (result.draws ≡ draws) }
@@ -173,6 +175,8 @@ pub fn cabinet<S: Source, C: Source, K: Sink, L: LabDisk, D: Disk, W: Draws>(
         → (result.status ≡ Status.OutOfMemory) ⊎ IfSome (S.left input.old) (λ script. result.status ≡ told_status (machine_so_far built_in_setup) (W.block_of draws) script (L.state result.lab)) }
     // 9: nothing was made.
     ensures no_memory { result.status ≡ Status.OutOfMemory → Appends (K.taken output.old) (K.taken output.new) no_memory_text }
+    // 7 would come exactly where an image that a power-on found shows no view. Each shows one, so it never comes.
+    ensures shown { All (IsShown (machine_so_far built_in_setup)) (L.state result.lab).found }
     ensures built { IsBuilt result.status }
     ensures unopened { IsUnopened result.status → (result.lab ≡ lab) × (result.draws ≡ draws) }
     ensures disk { result.disk ≡ disk }

@@ -1,12 +1,13 @@
 //! A trial, from its memory on.
 
-ghost use Rattle.std.specs.Prelude.{◌≡◌, ◌≤◌, ◌⊎◌, true, [], ℕ, IfSome, codes};
+ghost use Rattle.std.specs.Prelude.{◌≡◌, ◌≤◌, ◌⊎◌, true, [], ℕ, IfSome, codes, All};
 ghost use Rattle.gd_base.specs.Causes.{Rose};
 ghost use Rattle.gd_base.specs.SoFar.{machine_so_far};
 ghost use Rattle.gd_top.specs.Books.{view_of};
 ghost use Rattle.gd_top.specs.Carrying.{outside, standing};
 ghost use Rattle.gd_top.specs.LinesDone.{RunEnded, step_of};
 ghost use Rattle.gd_top.specs.Running.{IsClosed, Leaves, Stands, Wrote};
+ghost use Rattle.gd_top.specs.Starts.{IsShown, KeepsShown};
 ghost use Rattle.gd_top.specs.Trial.{first_standing, last_text, status_after, GivesLast, HasCauses, IsLeft, IsOfTrial, RunDone};
 ghost use Rattle.gd_top.specs.Words.{memory_core, memory_disk, memory_draws, memory_lap, memory_phase, memory_stopped};
 
@@ -52,6 +53,7 @@ fn run_script<C: Core, S: Source, K: Sink, L: LabDisk, W: Draws>(
     ensures wrote { Wrote (step_of result.end) (K.faults output.old) (K.faults output.new) }
     ensures few { result.lines ≤ MOST_LINES }
     ensures read { result.end ≡ LinesEnd.ReadFault → Rose (S.faults input.old) (S.faults input.new) }
+    ensures shown { KeepsShown (C.meaning parts.core) (L.state parts.disk) (L.state (memory_disk result.run.memory)) }
     ensures meaning { C.meaning (memory_core result.run.memory) ≡ C.meaning parts.core }
 {
     let opened = open_memory(parts, 0, output, text);
@@ -150,6 +152,7 @@ pub(crate) fn carry<S: Source, K: Sink, L: LabDisk, W: Draws>(
     requires found { (L.state parts.disk).found ≡ [] }
     ensures done { IfSome (S.left input.old) (λ script. RunDone (machine_so_far parts.core.setup) (W.block_of parts.draws) result.status script
         (S.left input.new) (K.taken output.old) (K.taken output.new) (L.state result.lab)) }
+    ensures shown { All (IsShown (machine_so_far parts.core.setup)) (L.state result.lab).found }
     ensures falls { result.falls.items ≡ [] }
     ensures of_trial { IsOfTrial result.status }
     ensures causes { HasCauses result.status (S.faults input.old) (S.faults input.new) (K.faults output.old) (K.faults output.new) (L.state parts.disk).faults (L.state result.lab).faults }

@@ -12,7 +12,7 @@ use Rattle.gd_top.specs.Offers.{counted}
 use Rattle.gd_top.specs.State.{On, told}
 use Rattle.gd_top.proofs.Carried.{said, found_none}
 use Rattle.gd_top.proofs.Events.{moves_by, event_is_told, event_breaks, failed_is_new}
-use Rattle.gd_top.proofs.Images.{both_near}
+use Rattle.gd_top.proofs.Images.{both_near, still_shown}
 use Rattle.gd_top.proofs.answering.carry_event.Goals as goal
 
 pub returns-in-Ok-clause-carried : goal.returns-in-Ok-clause-carried
@@ -61,3 +61,13 @@ returns-in-Err-clause-carried g c =
           let shown = at_end old new (ShowsEither M v (offered M B (cabinet_lap cabinet) v e)) (c.in-Err.ensures.any_moment c.requires.open.runs) image may in
           (e, subst (λ (n : ℕ). ShowsEither M v (offered M B n v e) image) c.requires.open.first_lap shown);
     }
+
+pub returns-in-Ok-clause-shown : goal.returns-in-Ok-clause-shown
+returns-in-Ok-clause-shown g c =
+    let cabinet = c.args.cabinet.now in
+    still_shown (g.C.Core.meaning (cabinet_core cabinet)) (g.L.Disk.state (cabinet_disk cabinet)) (g.L.Disk.state (cabinet_disk c.submit.new.self)) c.in-Ok.ensures.found
+
+pub returns-in-Err-clause-shown : goal.returns-in-Err-clause-shown
+returns-in-Err-clause-shown g c =
+    let cabinet = c.args.cabinet.now in
+    still_shown (g.C.Core.meaning (cabinet_core cabinet)) (g.L.Disk.state (cabinet_disk cabinet)) (g.L.Disk.state (cabinet_disk c.submit.new.self)) c.in-Err.ensures.found

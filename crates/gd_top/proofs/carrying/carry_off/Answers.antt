@@ -30,6 +30,7 @@ returns-in_default g c =
           (λ x. off_stops M B c.args.item.now v lines c.args.power_ons x c.requires.served c.in_default.not-On c.in_default.not-Skip);
       leaves = record { stands = λ serves. c.requires.closed; faults = λ serves. refl; broken = λ is. absurd (cc is) };
       wrote = record { later = omega arith; unwritten = λ is. absurd (cc is) };
+      shown = λ h. h;
       meaning = refl;
       draws = λ l i. refl;
     }

@@ -7,7 +7,7 @@ use Rattle.gd_store.specs.Repair.{repaired}
 use Rattle.gd_top.specs.Carrying.{standing, outside, GivesText}
 use Rattle.gd_top.specs.Lines.{power_line, start_text}
 use Rattle.gd_top.specs.State.{Off}
-use Rattle.gd_top.proofs.Images.{holds_shows, told_at, one_view, both_near, opening_near, near_after}
+use Rattle.gd_top.proofs.Images.{holds_shows, told_at, one_view, both_near, opening_near, near_after, one_more_shown, still_shown}
 use Rattle.gd_top.proofs.Opening.{opened_by, off_by, unread_by}
 use Rattle.gd_top.proofs.powering.open_memory.Goals as goal
 
@@ -63,3 +63,25 @@ returns-in-Err-clause-carried g c =
     λ lines.
     unread_by M B v (standing v Off lines n) [] lines n (outside old (g.K.Sink.taken c.args.output.now)) (outside off (g.K.Sink.taken c.args.output.now)) off
     (c.in-Err.ensures.none_found ∙ sym (append-nil old.found)) (near_after M B v old off c.requires.closed.both c.in-Err.ensures.loss) (Appends-nil _)
+
+pub returns-in-Ready-clause-shown : goal.returns-in-Ready-clause-shown
+returns-in-Ready-clause-shown g c =
+    let parts = c.args.parts in
+    let M = g.C.Core.meaning parts.core in
+    let v = g.C.Core.view parts.core in
+    let h = c.in-Ok.ensures.found in
+    one_more_shown M (g.L.Disk.state parts.disk) (g.L.Disk.state (cabinet_disk c.in-Ready.cabinet)) h.image v (c.in-Ready.ensures.found ∙ h.listed)
+    (holds_shows M v h.image (c.requires.closed.both h.image h.could_be))
+
+pub returns-in-Off-clause-shown : goal.returns-in-Off-clause-shown
+returns-in-Off-clause-shown g c =
+    let parts = c.args.parts in
+    let M = g.C.Core.meaning parts.core in
+    let v = g.C.Core.view parts.core in
+    let h = c.in-Ok.ensures.found in
+    one_more_shown M (g.L.Disk.state parts.disk) (g.L.Disk.state c.in-Off.parts.disk) h.image v (c.in-Off.ensures.found ∙ h.listed)
+    (holds_shows M v h.image (c.requires.closed.both h.image h.could_be))
+
+pub returns-in-Err-clause-shown : goal.returns-in-Err-clause-shown
+returns-in-Err-clause-shown g c =
+    still_shown (g.C.Core.meaning c.args.parts.core) (g.L.Disk.state c.args.parts.disk) (g.L.Disk.state c.power_on.new.self) c.in-Err.ensures.none_found

@@ -6,7 +6,7 @@ use Rattle.gd_top.specs.Items.{item_told}
 use Rattle.gd_top.specs.State.{On, Off, told}
 use Rattle.gd_top.proofs.Carried.{said, stays}
 use Rattle.gd_top.proofs.Equations.{off_is}
-use Rattle.gd_top.proofs.Images.{near_after, closed_both, still_both, settled, settled_after}
+use Rattle.gd_top.proofs.Images.{near_after, closed_both, still_both, settled, settled_after, still_shown}
 use Rattle.gd_top.proofs.powering.turn_off.Goals as goal
 
 pub returns-clause-carried : goal.returns-clause-carried
@@ -53,3 +53,8 @@ returns-clause-leaves g c =
       faults = λ serves. c.power_off.ensures.faults ∙ ap (λ d. (g.L.Disk.state d).faults) disk;
       broken = λ is. absurd (c.give_text.ensures.no_break is);
     }
+
+pub returns-clause-shown : goal.returns-clause-shown
+returns-clause-shown g c =
+    still_shown (g.C.Core.meaning (cabinet_core c.args.cabinet)) (g.L.Disk.state (cabinet_disk c.args.cabinet)) (g.L.Disk.state c.power_off.new.self)
+    (c.power_off.ensures.found ∙ ap (λ d. (g.L.Disk.state d).found) c.close-parts.ensures.disk)

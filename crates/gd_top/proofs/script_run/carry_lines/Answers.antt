@@ -4,6 +4,7 @@ use Rattle.std.specs.Io.KnownBytes.{Consumes, IsAtEnd, prepend_known}
 use Rattle.gd_top.specs.Carrying.{outside, standing}
 use Rattle.gd_top.specs.Items.{lines_told}
 use Rattle.gd_top.specs.LinesDone.{CarriedLines}
+use Rattle.gd_top.specs.Starts.{KeepsShown}
 use Rattle.gd_top.specs.Words.{memory_core, memory_disk, memory_draws, memory_lap, memory_phase, memory_stopped}
 use Rattle.gd_top.specs.declared.lines.LineEnd.{LineEnd}
 use Rattle.gd_top.specs.declared.lines.TheConstants.{MOST_LINES}
@@ -23,6 +24,7 @@ loop-lines-init g c =
           (g.S.Source.left c.args.input.now) _ c.new-ahead.ensures;
       stands = c.requires.stands;
       faults = refl;
+      shown = λ h. h;
       meaning = refl;
       draws = λ n i. refl;
       writes = omega arith;
@@ -203,6 +205,7 @@ loop-lines-preserved g c =
       carried = lines_on M B was stands (standing (g.C.Core.view (memory_core after.memory)) (memory_phase after.memory) (c.loop-lines.lines + 1) after.power_ons) u v w disk left old new line c.next_line.ensures.no_end k.carried t one;
       stands = left_over.stands tt;
       faults = left_over.faults tt;
+      shown = λ h. subst (λ m. KeepsShown m (g.L.Disk.state (memory_disk run.memory)) disk) k.meaning carried.ensures.shown (k.shown h);
       meaning = carried.ensures.meaning ∙ k.meaning;
       draws = λ n i. carried.ensures.draws n i ∙ k.draws n i;
       writes = omega (arith, k.writes, carried.ensures.wrote.later);
@@ -264,3 +267,24 @@ returns-in-Err-next_byte-clause-done g c =
     let all : c.loop-lines.lines ≡ MOST_LINES = omega (arith, c.loop-lines-test.false, c.loop-lines.auto.lines-end) in
     lines_unread M B was (standing (g.C.Core.view (memory_core run.memory)) (memory_phase run.memory) MOST_LINES run.power_ons) u v left old (g.S.Source.left c.next_byte.new.source) c.next_byte.new.ahead [] (All-nil (λ (b : ℕ). b ≢ 10)) (omega arith) (inr refl) c.in-Err-next_byte.ensures.empty
     (subst (λ (n : ℕ). CarriedLines M (lines_told M B) was (standing (g.C.Core.view (memory_core run.memory)) (memory_phase run.memory) n run.power_ons) u v left old) all k.carried) c.in-Err-next_byte.ensures.none
+
+pub returns-in-Stops-clause-shown : goal.returns-in-Stops-clause-shown
+returns-in-Stops-clause-shown g c =
+    let k = c.loop-lines.invariant in
+    let carried = c.carry_line-carried in
+    λ h.
+    subst (λ m. KeepsShown m (g.L.Disk.state (memory_disk c.loop-lines.run.memory)) (g.L.Disk.state (memory_disk carried.result.run.memory))) k.meaning carried.ensures.shown (k.shown h)
+
+pub returns-in-DiskFault-clause-shown : goal.returns-in-DiskFault-clause-shown
+returns-in-DiskFault-clause-shown g c =
+    let k = c.loop-lines.invariant in
+    let carried = c.carry_line-carried in
+    λ h.
+    subst (λ m. KeepsShown m (g.L.Disk.state (memory_disk c.loop-lines.run.memory)) (g.L.Disk.state (memory_disk carried.result.run.memory))) k.meaning carried.ensures.shown (k.shown h)
+
+pub returns-in-WriteFault-clause-shown : goal.returns-in-WriteFault-clause-shown
+returns-in-WriteFault-clause-shown g c =
+    let k = c.loop-lines.invariant in
+    let carried = c.carry_line-carried in
+    λ h.
+    subst (λ m. KeepsShown m (g.L.Disk.state (memory_disk c.loop-lines.run.memory)) (g.L.Disk.state (memory_disk carried.result.run.memory))) k.meaning carried.ensures.shown (k.shown h)

@@ -4,6 +4,7 @@ use Rattle.gd_top.specs.Carrying.{outside, standing}
 use Rattle.gd_top.specs.Items.{lines_told}
 use Rattle.gd_top.specs.LinesDone.{CarriedLines}
 use Rattle.gd_top.specs.Running.{Stands}
+use Rattle.gd_top.specs.Starts.{KeepsShown}
 use Rattle.gd_top.specs.Words.{memory_core, memory_disk, memory_draws, memory_lap, memory_phase, memory_stopped}
 use Rattle.gd_top.proofs.script_run.carry_lines.Given as goal
 
@@ -21,6 +22,7 @@ invariant-loop-lines g l =
           (outside (g.L.Disk.state (memory_disk first)) (g.K.Sink.taken l.fn.output)) (outside disk (g.K.Sink.taken l.output)) (g.S.Source.left l.fn.input) (prepend_known l.ahead (g.S.Source.left l.input));
       stands : Stands M v (memory_phase memory) disk (memory_stopped memory) (memory_lap memory);
       faults : disk.faults ≡ (g.L.Disk.state (memory_disk first)).faults;
+      shown : KeepsShown M (g.L.Disk.state (memory_disk first)) disk;
       meaning : g.C.Core.meaning (memory_core memory) ≡ M;
       draws : (n i : ℕ) → g.W.Draws.block_of (memory_draws memory) n i ≡ B n i;
       writes : g.K.Sink.faults l.fn.output ≤ g.K.Sink.faults l.output;

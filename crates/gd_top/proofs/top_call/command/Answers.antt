@@ -1,8 +1,9 @@
-use Rattle.std.proofs.Common.{◌≡◌, sym, subst, arith, Bool, true}
+use Rattle.std.proofs.Common.{◌≡◌, sym, subst, arith, Bool, true, All}
 use Rattle.gd_base.specs.BuiltIn.{built_in_setup}
 use Rattle.gd_base.specs.SoFar.{machine_so_far}
 use Rattle.gd_base.specs.declared.setup.Setup.{Setup}
 use Rattle.gd_top.specs.Trial.{is_trial, CabinetDone}
+use Rattle.gd_top.specs.Starts.{IsShown}
 use Rattle.gd_top.proofs.WholeRun.{carried_done, exactly_by}
 use Rattle.gd_top.proofs.top_call.command.Goals as goal
 
@@ -28,3 +29,8 @@ returns-in-Ok-clause-exact g c =
     λ is read written broke.
     exactly_by (machine_so_far built_in_setup) (g.W.Draws.block_of c.args.draws) (is_trial c.args.words.now) run.result.status (g.S.Source.left c.args.input.now) (g.S.Source.left run.new.input)
     (g.K.Sink.taken c.args.output.now) (g.K.Sink.taken run.new.output) (g.L.Disk.state run.result.lab) is h read written broke
+
+pub returns-in-Ok-clause-shown : goal.returns-in-Ok-clause-shown
+returns-in-Ok-clause-shown g c =
+    let run = c.carry-trial in
+    subst (λ (s : Setup). All (IsShown (machine_so_far s)) (g.L.Disk.state run.result.lab).found) c.empty_core.ensures.setup run.ensures.shown

@@ -1,4 +1,4 @@
-use Rattle.std.proofs.Common.{◌≡◌, ◌∙◌, ap, sym, subst, List, ℕ, []}
+use Rattle.std.proofs.Common.{◌≡◌, ◌∙◌, ap, sym, subst, List, ℕ, [], All}
 use Rattle.gd_base.specs.Causes.{Rose}
 use Rattle.gd_base.specs.SoFar.{machine_so_far}
 use Rattle.gd_top.specs.Books.{view_of}
@@ -8,6 +8,8 @@ use Rattle.gd_top.specs.Running.{Stands}
 use Rattle.gd_top.specs.Trial.{GivesLast, IsLeft, first_standing, last_text, status_after}
 use Rattle.gd_top.specs.Words.{memory_core, memory_disk, memory_lap, memory_phase, memory_stopped}
 use Rattle.gd_top.specs.declared.step.Step.{Step}
+use Rattle.gd_top.specs.Starts.{IsShown}
+use Rattle.gd_top.proofs.Images.{none_shown}
 use Rattle.gd_top.proofs.Ends.{causes, unlocked}
 use Rattle.gd_top.proofs.WholeRun.{ran_done, unmade_done}
 use Rattle.gd_top.proofs.trial.carry.Goals as goal
@@ -66,3 +68,14 @@ returns-in-Err-clause-done g c =
     let left = g.S.Source.left c.args.input.now in
     unmade_done (machine_so_far c.args.parts.core.setup) (g.W.Draws.block_of c.args.parts.draws) c.end_unmade.result.status left left (g.K.Sink.taken c.args.output.now) (g.K.Sink.taken c.end_unmade.new.output)
     (g.L.Disk.state c.end_unmade.result.lab) c.end_unmade.ensures.given
+
+pub returns-in-Ok-clause-shown : goal.returns-in-Ok-clause-shown
+returns-in-Ok-clause-shown g c =
+    let made = c.in-Ok.parts in
+    let memory = c.run_script.result.run.memory in
+    let M = machine_so_far c.args.parts.core.setup in
+    let same = ap (λ k. machine_so_far k.setup) c.in-Ok.ensures.core in
+    let found = c.in-Ok.ensures.found ∙ c.requires.found in
+    subst (λ d. All (IsShown M) (g.L.Disk.state d).found) (sym c.finish.ensures.lab)
+    (subst (λ m. All (IsShown m) (g.L.Disk.state (memory_disk memory)).found) same
+    (c.run_script.ensures.shown (none_shown (machine_so_far made.core.setup) (g.L.Disk.state made.disk) found)))

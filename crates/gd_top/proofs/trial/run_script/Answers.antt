@@ -7,6 +7,7 @@ use Rattle.gd_top.specs.State.{Off, Goes}
 use Rattle.gd_top.specs.Trial.{first_standing}
 use Rattle.gd_top.specs.Words.{memory_core, memory_disk, memory_draws, memory_lap, memory_phase, memory_stopped}
 use Rattle.gd_top.specs.declared.step.Step.{Step}
+use Rattle.gd_top.specs.Starts.{KeepsShown}
 use Rattle.gd_top.proofs.Alike.{leaves_alike}
 use Rattle.gd_top.proofs.Ends.{consumed_none}
 use Rattle.gd_top.proofs.WholeRun.{run_of_lines, run_broken}
@@ -68,3 +69,10 @@ returns-in-WriteFault-clause-ended g c =
     let o = outside disk (g.K.Sink.taken opened.new.output) in
     let h = subst (λ (r : Step). CarriesBy r M B (power_on M B Nothing Done) (standing (g.C.Core.view parts.core) Off 0 0) mid u o disk) c.in-WriteFault.is (opened.ensures.carried 0) in
     inl (subst (λ v. Unwritten M B (power_on M B Nothing Done) (standing v Off 0 0) u o disk) c.requires.empty h)
+
+pub returns-in-Goes-clause-shown : goal.returns-in-Goes-clause-shown
+returns-in-Goes-clause-shown g c =
+    let opened = c.open_memory-opened in
+    λ h.
+    subst (λ m. KeepsShown m (g.L.Disk.state (memory_disk opened.result.run.memory)) (g.L.Disk.state (memory_disk c.carry_lines.result.run.memory))) opened.ensures.meaning c.carry_lines.ensures.shown
+    (opened.ensures.shown h)
