@@ -25,7 +25,7 @@ abbrev pub starting : {V : Type 0} → Machine V → V → ℕ
 starting M v = syncs_of (is_new (answer M v (start_of M v)))
 
 -- an image whose boot was found and loaded has as many syncs as the repair and the start make
-syncs_are : {V : Type 0} (M : Machine V) (found : Found) (v : V) (c : List ℕ) → found ≡ found_in LAYOUT c → shows M c ≡ Shows v → syncs_of_repair (repaired found) + starting M v ≡ opening_syncs M c
+pub syncs_are : {V : Type 0} (M : Machine V) (found : Found) (v : V) (c : List ℕ) → found ≡ found_in LAYOUT c → shows M c ≡ Shows v → syncs_of_repair (repaired found) + starting M v ≡ opening_syncs M c
 syncs_are M found v c same show =
     ap (λ (f : Found). syncs_of_repair (repaired f) + starting M v) same
     ∙ ap (λ s. syncs_of_repair (repaired (found_in LAYOUT c)) + start_syncs M s) (sym show)

@@ -1,9 +1,11 @@
 -- What an event that is offered leaves.
-use Rattle.std.proofs.Common.{◌≡◌, ◌∙◌, ◌⊎◌, inl, inr, ⊎_elim, sym, ap, refl, ℕ, List, Ok, Option, Some, None, if◌then◌else◌, ◌&&◌}
+use Rattle.std.proofs.Common.{◌≡◌, ◌∙◌, ◌⊎◌, inl, inr, ⊎_elim, sym, ap, subst, refl, arith, ℕ, List, Result, Ok, Err, Option, Some, None, if◌then◌else◌, ◌&&◌}
 use Rattle.gd_disk.specs.Disk.{DiskState}
 use Rattle.gd_disk.specs.Runs.{LeavesOnly, CutsOfRun}
+use Rattle.gd_disk.specs.CutRuns.{RunOf}
 use Rattle.gd_disk.proofs.Cuts.{none_made}
 use Rattle.gd_disk.proofs.Runs.{started, weaker}
+use Rattle.gd_disk.proofs.WholeRuns.{no_syncs, run_fails}
 use Rattle.gd_base.specs.Answer.{answer, after_answer, is_new, draw_for}
 use Rattle.gd_base.specs.Legal.{draw_of}
 use Rattle.gd_base.specs.Machine.{Machine, Blocks}
@@ -46,3 +48,14 @@ no_moments M n p v x s spelled count settled = started s _ (λ c may. inl (settl
 pub no_cuts : {V T E : Type 0} (M : Machine V) (v : V) (e : Numbered) (s : Stepped) (a : T) (disk : DiskState) → s ≡ answer M v e → syncs_of (is_new s) ≡ 0
     → CutsOfRun {T = T} {E = E} (syncs_of (is_new (answer M v e))) (Ok a) disk disk
 no_cuts M v e s a disk is none = none_made (syncs_of (is_new (answer M v e))) a disk (ap (λ (t : Stepped). syncs_of (is_new t)) (sym is) ∙ none)
+
+pub no_run : {V T E : Type 0} (M : Machine V) (v : V) (e : Numbered) (s : Stepped) (a : T) (disk : DiskState) → s ≡ answer M v e → syncs_of (is_new s) ≡ 0
+    → RunOf {T = T} {E = E} (syncs_of (is_new (answer M v e))) (Ok a) disk disk
+no_run M v e s a disk is none = no_syncs (syncs_of (is_new (answer M v e))) a disk (ap (λ (t : Stepped). syncs_of (is_new t)) (sym is) ∙ none)
+
+-- a commit that failed
+pub failed_run : {V T E S F : Type 0} (M : Machine V) (v : V) (e : Numbered) (s : Stepped) (x : E) (y : F) (old new : DiskState) → s ≡ answer M v e → syncs_of (is_new s) ≡ 6
+    → RunOf {T = T} 6 (Err x) old new → RunOf {T = S} (syncs_of (is_new (answer M v e))) (Err y) old new
+failed_run {V} {T} {E} {S} {F} M v e s x y old new is six run =
+    let r : Result S F = Err y in
+    subst (λ (n : ℕ). RunOf n r old new) (sym six ∙ ap (λ (t : Stepped). syncs_of (is_new t)) is) (run_fails {T = T} 6 6 x r old new refl (omega arith) run)

@@ -1,5 +1,7 @@
 pub mod Answered
 pub mod Opened
 pub mod Opening
+pub mod OpeningRuns
 pub mod Shown
+pub mod Told
 pub mod Words

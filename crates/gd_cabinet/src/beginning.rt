@@ -1,5 +1,6 @@
 // The start of a core on a store.
-ghost use Rattle.std.specs.Prelude.{◌≡◌, ◌+◌, IfOk, IfErr, List, ℕ, true, false, length};
+ghost use Rattle.std.specs.Prelude.{◌≡◌, ◌+◌, Err, IfOk, IfErr, List, ℕ, true, false, length};
+ghost use Rattle.gd_disk.specs.CutRuns.{IsWhole, RunOf};
 ghost use Rattle.gd_disk.specs.Disk.{Rose};
 ghost use Rattle.gd_disk.specs.Runs.{LeavesOnly, CutOrFaultIn};
 ghost use Rattle.gd_base.specs.Answer.{answer, is_new};
@@ -78,6 +79,8 @@ pub(crate) fn begin<C: Core, D: Disk, W: Draws>(
         × ((D.state parts.disk).size ≡ (D.state (store_disk store)).size) × ((D.state parts.disk).found ≡ (D.state (store_disk store)).found)
         × ((D.state parts.disk).is_on ≡ false)) }
     ensures cut { IfErr result (λ parts. CutOrFaultIn (syncs_of (is_new (answer (C.meaning core) (C.view core) (start_of (C.meaning core) (C.view core))))) (D.state (store_disk store)) (D.state parts.disk)) }
+    ensures run { IfOk result (λ cabinet. IsWhole (syncs_of (is_new (answer (C.meaning core) (C.view core) (start_of (C.meaning core) (C.view core))))) (D.state (store_disk store)) (D.state (cabinet_disk cabinet))) }
+    ensures off_run { IfErr result (λ parts. RunOf {T = Unit {0}} {E = Unit {0}} (syncs_of (is_new (answer (C.meaning core) (C.view core) (start_of (C.meaning core) (C.view core))))) (Err tt) (D.state (store_disk store)) (D.state parts.disk)) }
     ensures off { IfErr result (λ parts. C.meaning parts.core ≡ C.meaning core) }
     ensures off_draws { IfErr result (λ parts. (l i : ℕ) → W.block_of parts.draws l i ≡ W.block_of draws l i) }
 {

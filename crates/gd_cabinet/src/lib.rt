@@ -4,6 +4,7 @@
 mod answer;
 mod beginning;
 mod cabinet;
+mod laboratory;
 mod locked;
 mod offering;
 mod opened;

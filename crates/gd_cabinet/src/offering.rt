@@ -1,6 +1,7 @@
 // One event of a core on a store.
 ghost use Rattle.std.specs.Prelude.{◌≡◌, ◌⊎◌, ◌+◌, ◌<◌, ◌^◌, OnOk, OnErr, IfOk, Some, List, ℕ, true, false};
 ghost use Rattle.gd_disk.specs.Disk.{Answers, Rose};
+ghost use Rattle.gd_disk.specs.CutRuns.{RunOf};
 ghost use Rattle.gd_disk.specs.Runs.{LeavesOnly, CutsOfRun};
 ghost use Rattle.gd_base.specs.Answer.{answer, is_new, draw_for};
 ghost use Rattle.gd_base.specs.Spelled.{Shows};
@@ -47,6 +48,7 @@ fn keep<C: Core, D: Disk>(core: &C, store: &mut Store<D>) -> Result<(), Off>
     ensures answer { Answers result (D.state (store_disk store.old)) (D.state (store_disk store.new)) }
     ensures syncs { MadeSyncs 6 result (D.state (store_disk store.old)) (D.state (store_disk store.new)) }
     ensures cuts { CutsOfRun 6 result (D.state (store_disk store.old)) (D.state (store_disk store.new)) }
+    ensures run { RunOf 6 result (D.state (store_disk store.old)) (D.state (store_disk store.new)) }
 {
     let mut image = [0; PAYLOAD_LEN];
     core.write_image(&mut image);
@@ -77,6 +79,9 @@ pub(crate) fn offer<C: Core, D: Disk, W: Draws>(
     ensures outcome { Answers result (D.state (store_disk store.old)) (D.state (store_disk store.new)) }
     ensures syncs { MadeSyncs (syncs_of (is_new (answer (C.meaning core.old) (C.view core.old) e.now))) result (D.state (store_disk store.old)) (D.state (store_disk store.new)) }
     ensures cuts { CutsOfRun (syncs_of (is_new (answer (C.meaning core.old) (C.view core.old) e.now))) result (D.state (store_disk store.old)) (D.state (store_disk store.new)) }
+    ensures run { RunOf (syncs_of (is_new (answer (C.meaning core.old) (C.view core.old) e.now))) result (D.state (store_disk store.old)) (D.state (store_disk store.new)) }
+    ensures no_call { is_new (answer (C.meaning core.old) (C.view core.old) e.now) ≡ false → store_disk store.new ≡ store_disk store.old }
+    ensures cause { OnErr result (is_new (answer (C.meaning core.old) (C.view core.old) e.now) ≡ true) }
     ensures meaning { C.meaning core.new ≡ C.meaning core.old }
     ensures draws { (l i : ℕ) → W.block_of draws.new l i ≡ W.block_of draws.old l i }
 {

@@ -2,13 +2,17 @@
 ghost use Rattle.std.specs.Prelude.{◌≡◌, ◌⊎◌, ◌+◌, Some, List, ℕ, true, false};
 ghost use Rattle.gd_disk.specs.Disk.{IfTold, IsSynced, Rose};
 ghost use Rattle.gd_disk.specs.Runs.{LeavesOnly, CutOrFaultIn};
+ghost use Rattle.gd_base.specs.Answer.{is_full};
 ghost use Rattle.gd_base.specs.Spelled.{Shows};
-ghost use Rattle.gd_store.specs.Copy.{found_in};
+ghost use Rattle.gd_store.specs.Copy.{boots, found_in};
+ghost use Rattle.gd_store.specs.Lost.{IsLost};
 ghost use Rattle.gd_store.specs.Opened.{IsOpenable};
 ghost use Rattle.gd_cabinet.specs.Answered.{Made};
 ghost use Rattle.gd_cabinet.specs.Opened.{disk_in, core_in, draws_in, OnReady, OnShut, OnOff, OnUnread, OpenedAs};
 ghost use Rattle.gd_cabinet.specs.Opening.{IsOpening, opening_syncs};
+ghost use Rattle.gd_cabinet.specs.OpeningRuns.{RunsBy, OpeningRun, FirstReading};
 ghost use Rattle.gd_cabinet.specs.Shown.{shows, IsInBoth};
+ghost use Rattle.gd_cabinet.specs.Told.{loading, AnswersTo, IsLostWhere};
 ghost use Rattle.gd_cabinet.specs.Words.{cabinet_core, cabinet_disk, cabinet_lap, cabinet_stopped};
 
 use crate::beginning::{begin, load_at};
@@ -46,6 +50,8 @@ fn open_store<C: Core, D: Disk, W: Draws>(
     ensures no_stop { OnReady result (λ cabinet found. (D.state (cabinet_disk cabinet)).stops ≡ (D.state parts.disk).stops) }
     ensures is_on { OnReady result (λ cabinet found. (D.state (cabinet_disk cabinet)).is_on ≡ true) }
     ensures made { OnReady result (λ cabinet found. IfTold (D.state parts.disk).seen (λ image. Made (opening_syncs (C.meaning parts.core) image) (D.state parts.disk) (D.state (cabinet_disk cabinet)))) }
+    ensures answer_run { OpeningRun (C.meaning parts.core) C.view (W.block_of parts.draws) lap result (D.state parts.disk) (D.state (disk_in result)) }
+    ensures run { IfTold (D.state parts.disk).seen (λ image. RunsBy result (opening_syncs (C.meaning parts.core) image) (D.state parts.disk) (D.state (disk_in result))) }
     ensures size { (D.state (disk_in result)).size ≡ (D.state parts.disk).size }
     ensures found { (D.state (disk_in result)).found ≡ (D.state parts.disk).found }
 {
@@ -132,6 +138,13 @@ impl<C: Core, D: Disk, W: Draws> Cabinet<C, D, W> {
         ensures no_stop { OnReady result (λ cabinet found. (D.state (cabinet_disk cabinet)).stops ≡ (D.state parts.disk).stops) }
         ensures is_on { OnReady result (λ cabinet found. (D.state (cabinet_disk cabinet)).is_on ≡ true) }
         ensures made { OnReady result (λ cabinet found. IfTold (D.state parts.disk).seen (λ image. Made (opening_syncs (C.meaning parts.core) image) (D.state parts.disk) (D.state (cabinet_disk cabinet)))) }
+        ensures answer_run { OpeningRun (C.meaning parts.core) C.view (W.block_of parts.draws) lap result (D.state parts.disk) (D.state (disk_in result)) }
+        ensures run { IfTold (D.state parts.disk).seen (λ image. RunsBy result (opening_syncs (C.meaning parts.core) image) (D.state parts.disk) (D.state (disk_in result))) }
+        ensures first_reading { FirstReading result D.state parts.disk }
+        ensures exactly { IfTold (D.state parts.disk).seen (λ image. AnswersTo result (loading (C.meaning parts.core) (boots LAYOUT image))) }
+        ensures lost_exactly { IfTold (D.state parts.disk).seen (λ image. IsLostWhere result (IsLost LAYOUT image)) }
+        ensures no_start { OnReady result (λ cabinet found. IfTold (D.state parts.disk).seen (λ image. (v : _) → shows (C.meaning parts.core) image ≡ Shows v
+            → is_full (C.meaning parts.core) v ≡ true → C.view (cabinet_core cabinet) ≡ v)) }
         ensures size { (D.state (disk_in result)).size ≡ (D.state parts.disk).size }
         ensures found { (D.state (disk_in result)).found ≡ (D.state parts.disk).found }
     {

@@ -1,6 +1,7 @@
 // An event that a device numbered.
-ghost use Rattle.std.specs.Prelude.{◌≡◌, ◌≢◌, ◌↔◌, OnOk, OnErr, IfOk, IsErr, IsErrOf, List, ℕ, true, false};
+ghost use Rattle.std.specs.Prelude.{◌≡◌, ◌≢◌, ◌↔◌, OnOk, OnErr, IfOk, IsOk, IsErr, IsErrOf, List, ℕ, true, false};
 ghost use Rattle.gd_disk.specs.Disk.{Rose};
+ghost use Rattle.gd_disk.specs.CutRuns.{RunOf};
 ghost use Rattle.gd_disk.specs.Runs.{LeavesOnly, CutsOfRun};
 ghost use Rattle.gd_base.specs.Answer.{answer, is_new};
 ghost use Rattle.gd_store.specs.Writing.{MadeSyncs};
@@ -42,6 +43,11 @@ impl<C: Core, D: Disk, W: Draws> Cabinet<C, D, W> {
             result (D.state (cabinet_disk self.old)) (D.state (cabinet_disk self.new)) }
         ensures cuts { cabinet_stopped self.old ≡ false → CutsOfRun (syncs_of (is_new (answer (C.meaning (cabinet_core self.old)) (C.view (cabinet_core self.old)) e.now)))
             result (D.state (cabinet_disk self.old)) (D.state (cabinet_disk self.new)) }
+        ensures run { RunOf (syncs_of (is_new (answer (C.meaning (cabinet_core self.old)) (C.view (cabinet_core self.old)) e.now)))
+            result (D.state (cabinet_disk self.old)) (D.state (cabinet_disk self.new)) }
+        ensures no_call { is_new (answer (C.meaning (cabinet_core self.old)) (C.view (cabinet_core self.old)) e.now) ≡ false → cabinet_disk self.new ≡ cabinet_disk self.old }
+        ensures only_new { IsErrOf result Stop.Off → is_new (answer (C.meaning (cabinet_core self.old)) (C.view (cabinet_core self.old)) e.now) ≡ true }
+        ensures served { cabinet_stopped self.old ≡ false → (Rose (D.state (cabinet_disk self.old)).stops (D.state (cabinet_disk self.new)).stops → ⊥) → IsOk result }
         ensures size { (D.state (cabinet_disk self.new)).size ≡ (D.state (cabinet_disk self.old)).size }
         ensures found { (D.state (cabinet_disk self.new)).found ≡ (D.state (cabinet_disk self.old)).found }
         ensures untouched { IsErrOf result Stop.Stopped → self.new ≡ self.old }

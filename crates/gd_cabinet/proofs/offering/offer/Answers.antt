@@ -1,7 +1,7 @@
 use Rattle.std.proofs.Common.{arith, sym, refl}
 use Rattle.gd_base.proofs.Answer.{new_event}
 use Rattle.gd_store.specs.Words.{store_disk, store_payload, store_sequence}
-use Rattle.gd_cabinet.proofs.OneEvent.{stepped_view, kept_moments, no_moments, no_cuts}
+use Rattle.gd_cabinet.proofs.OneEvent.{stepped_view, kept_moments, no_moments, no_cuts, no_run, failed_run}
 use Rattle.gd_cabinet.proofs.offering.offer.Goals as goal
 
 pub keep-requires-clause-room : goal.keep-requires-clause-room
@@ -46,3 +46,19 @@ returns-in-OutOfStep-clause-cuts g c =
 pub returns-in-HistoryFull-clause-cuts : goal.returns-in-HistoryFull-clause-cuts
 returns-in-HistoryFull-clause-cuts g c =
     no_cuts (g.C.Core.meaning c.args.core.now) (g.C.Core.view c.args.core.now) c.args.e.now _ _ (g.D.Disk.state (store_disk c.args.store.now)) c.in-HistoryFull.ensures.answer refl
+
+pub returns-in-Again-clause-run : goal.returns-in-Again-clause-run
+returns-in-Again-clause-run g c =
+    no_run (g.C.Core.meaning c.args.core.now) (g.C.Core.view c.args.core.now) c.args.e.now _ _ (g.D.Disk.state (store_disk c.args.store.now)) c.in-Again.ensures.answer refl
+
+pub returns-in-OutOfStep-clause-run : goal.returns-in-OutOfStep-clause-run
+returns-in-OutOfStep-clause-run g c =
+    no_run (g.C.Core.meaning c.args.core.now) (g.C.Core.view c.args.core.now) c.args.e.now _ _ (g.D.Disk.state (store_disk c.args.store.now)) c.in-OutOfStep.ensures.answer refl
+
+pub returns-in-HistoryFull-clause-run : goal.returns-in-HistoryFull-clause-run
+returns-in-HistoryFull-clause-run g c =
+    no_run (g.C.Core.meaning c.args.core.now) (g.C.Core.view c.args.core.now) c.args.e.now _ _ (g.D.Disk.state (store_disk c.args.store.now)) c.in-HistoryFull.ensures.answer refl
+
+pub returns-in-Err-clause-run : goal.returns-in-Err-clause-run
+returns-in-Err-clause-run g c =
+    failed_run (g.C.Core.meaning c.args.core.now) (g.C.Core.view c.args.core.now) c.args.e.now _ _ _ (g.D.Disk.state (store_disk c.args.store.now)) (g.D.Disk.state (store_disk c.keep.new.store)) c.in-New.ensures.answer refl c.in-Err.ensures.run

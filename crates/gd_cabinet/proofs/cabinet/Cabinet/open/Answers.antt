@@ -2,6 +2,7 @@ use Rattle.gd_store.specs.Words.{room_payload}
 use Rattle.gd_cabinet.specs.Opened.{disk_in}
 use Rattle.gd_cabinet.proofs.Moments.{reads_alone, reads_then}
 use Rattle.gd_cabinet.proofs.Showing.{told_view, told_differs}
+use Rattle.gd_cabinet.proofs.WholeOpenings.{reading_failed_run, reads_before_told, no_start_told}
 use Rattle.gd_cabinet.proofs.cabinet.Cabinet.open.Goals as goal
 
 pub open_store-requires-clause-told : goal.open_store-requires-clause-told
@@ -30,3 +31,16 @@ pub returns-in-Differs-clause-what : goal.returns-in-Differs-clause-what
 returns-in-Differs-clause-what g c =
     told_differs (g.C.Core.meaning c.args.parts.core) c.in-Ready.found c.in-Ready.sequence c.payload.result.now (room_payload c.boot.new.room) c.in-Differs.kept c.load_at-loaded.result (g.D.Disk.state c.args.parts.disk).seen
     c.payload.ensures.value c.load_at-loaded.ensures.answer c.in-Differs.is c.in-Ready.ensures.what
+
+pub returns-in-Off-clause-run : goal.returns-in-Off-clause-run
+returns-in-Off-clause-run g c = reading_failed_run (g.C.Core.meaning c.args.parts.core) (g.D.Disk.state c.args.parts.disk) (g.D.Disk.state c.boot.new.disk) c.in-Off.ensures.run
+
+pub returns-in-Read-clause-run : goal.returns-in-Read-clause-run
+returns-in-Read-clause-run g c =
+    reads_before_told c.open_store.result (g.C.Core.meaning c.args.parts.core) (g.C.Core.meaning c.load_at-loaded.new.core) (g.D.Disk.state c.args.parts.disk) (g.D.Disk.state c.boot.new.disk) (g.D.Disk.state (disk_in c.open_store.result))
+    c.load_at-loaded.ensures.same c.in-Ready.ensures.seen c.in-Ready.ensures.answer.was_on c.in-Ready.ensures.answer.stays_on c.in-Ready.ensures.run.whole c.open_store.ensures.run
+
+pub returns-in-Read-clause-no_start : goal.returns-in-Read-clause-no_start
+returns-in-Read-clause-no_start g c =
+    no_start_told (g.C.Core.meaning c.args.parts.core) (g.C.Core.meaning c.load_at-loaded.new.core) g.C.Core.view (g.W.Draws.block_of c.args.parts.draws) c.args.lap c.open_store.result (g.D.Disk.state c.args.parts.disk).seen (g.D.Disk.state c.boot.new.disk).seen
+    c.load_at-loaded.ensures.same c.in-Ready.ensures.seen c.open_store.ensures.what

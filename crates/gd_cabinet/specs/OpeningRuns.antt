@@ -1,0 +1,47 @@
+-- What an opening leaves of the syncs, the armed cuts and the faults, by what it answers.
+use Rattle.std.specs.Prelude.{◌≡◌, ◌≤◌, ◌+◌, ℕ, true, Some, None, Ok, Err}
+use Rattle.gd_base.specs.Machine.{Machine, Blocks}
+use Rattle.gd_base.specs.Spelled.{Shows}
+use Rattle.gd_disk.specs.CutRuns.{IsWhole, RunOf}
+use Rattle.gd_disk.specs.Disk.{DiskState, Answers}
+use Rattle.gd_store.specs.Repair.{repaired, syncs_of_repair}
+use Rattle.gd_cabinet.specs.Opening.{started, start_syncs}
+use Rattle.gd_cabinet.specs.Words.{cabinet_core}
+use Rattle.gd_cabinet.specs.declared.opened.CabinetOpened.{CabinetOpened}
+
+-- a run of this many syncs, which is whole at Ready; where the memory is shut, a whole one of none
+abbrev pub RunsBy : {C D W : Type 0} {g h i : _} → CabinetOpened C D W g h i → ℕ → DiskState → DiskState → Type 0
+RunsBy (CabinetOpened.Ready cabinet found) syncs old new = IsWhole syncs old new
+RunsBy (CabinetOpened.Locked why found parts) syncs old new = IsWhole 0 old new
+RunsBy (CabinetOpened.Differs kept found parts) syncs old new = IsWhole 0 old new
+RunsBy (CabinetOpened.Off found parts) syncs old new = RunOf {T = Unit {0}} {E = Unit {0}} syncs (Err tt) old new
+
+-- The same for a disk that doesn't tell its content: at Ready the syncs of the repair and those of the start on the view that
+-- was read, else at most those of one repair, or of that and a start.
+abbrev pub OpeningRun : {V C D W : Type 0} {g h i : _} → Machine V → (C → V) → Blocks → ℕ → CabinetOpened C D W g h i → DiskState → DiskState → Type 0
+OpeningRun M view blocks lap (CabinetOpened.Ready cabinet found) old new =
+    (v : _) × (view (cabinet_core cabinet) ≡ started M blocks lap v) × IsWhole (syncs_of_repair (repaired found) + start_syncs M (Shows v)) old new
+OpeningRun M view blocks lap (CabinetOpened.Locked why found parts) old new = (syncs : ℕ) × (syncs ≤ 3) × IsWhole syncs old new
+OpeningRun M view blocks lap (CabinetOpened.Differs kept found parts) old new = (syncs : ℕ) × (syncs ≤ 3) × IsWhole syncs old new
+OpeningRun M view blocks lap (CabinetOpened.Off found parts) old new = RunOf {T = Unit {0}} {E = Unit {0}} 9 (Err tt) old new
+
+-- both copies were read
+pub record HasRead (old new : DiskState) : Type 0 where
+  pub answer : Answers {T = Unit {0}} {E = Unit {0}} (Ok tt) old new
+  pub seen : new.seen ≡ old.seen
+  pub run : IsWhole 0 old new
+
+-- the first reading of the copies failed
+pub record HasNotRead (old new : DiskState) : Type 0 where
+  pub answer : Answers {T = Unit {0}} {E = Unit {0}} (Err tt) old new
+  pub run : RunOf {T = Unit {0}} {E = Unit {0}} 0 (Err tt) old new
+
+-- The first reading of the copies, which needs the power on. At Off nothing is found where it failed; else it
+-- succeeded, and a later call failed.
+abbrev pub FirstReading : {C D W : Type 0} {g h i : _} → CabinetOpened C D W g h i → (D → DiskState) → D → Type 0
+FirstReading (CabinetOpened.Ready cabinet found) state disk = (state disk).is_on ≡ true
+FirstReading (CabinetOpened.Locked why found parts) state disk = (state disk).is_on ≡ true
+FirstReading (CabinetOpened.Differs kept found parts) state disk = (state disk).is_on ≡ true
+FirstReading (CabinetOpened.Off None parts) state disk = HasNotRead (state disk) (state parts.disk)
+FirstReading {D = D} (CabinetOpened.Off (Some found) parts) state disk =
+    (read : D) × HasRead (state disk) (state read) × RunOf {T = Unit {0}} {E = Unit {0}} 9 (Err tt) (state read) (state parts.disk)
