@@ -1,12 +1,13 @@
 // The opening of a memory.
 ghost use Rattle.std.specs.Prelude.{◌≡◌, ◌⊎◌, ◌+◌, Some, List, ℕ, true, false};
-ghost use Rattle.gd_disk.specs.Disk.{IfTold, IsSynced, Rose};
+ghost use Rattle.gd_disk.specs.Disk.{IfTold, IsSynced, Rose, Stands};
 ghost use Rattle.gd_disk.specs.Runs.{LeavesOnly, CutOrFaultIn};
 ghost use Rattle.gd_base.specs.Answer.{is_full};
 ghost use Rattle.gd_base.specs.Spelled.{Shows};
 ghost use Rattle.gd_store.specs.Copy.{boots, found_in};
 ghost use Rattle.gd_store.specs.Lost.{IsLost};
 ghost use Rattle.gd_store.specs.Opened.{IsOpenable};
+ghost use Rattle.gd_store.specs.Writing.{From};
 ghost use Rattle.gd_cabinet.specs.Answered.{Made};
 ghost use Rattle.gd_cabinet.specs.Opened.{disk_in, core_in, draws_in, OnReady, OnShut, OnOff, OnUnread, OpenedAs};
 ghost use Rattle.gd_cabinet.specs.Opening.{IsOpening, opening_syncs};
@@ -127,6 +128,7 @@ impl<C: Core, D: Disk, W: Draws> Cabinet<C, D, W> {
         ensures draws { (l i : ℕ) → W.block_of (draws_in result) l i ≡ W.block_of parts.draws l i }
         ensures untouched { OnShut result (IfTold (D.state parts.disk).seen (λ image. ((D.state (disk_in result)).seen ≡ Some image)
             × ((D.state (disk_in result)).syncs ≡ (D.state parts.disk).syncs) × ((D.state (disk_in result)).armed ≡ (D.state parts.disk).armed))) }
+        ensures unwritten { OnShut result (IfTold (D.state parts.disk).seen (λ image. LeavesOnly (D.state parts.disk) (D.state (disk_in result)) (From (D.state parts.disk) Stands))) }
         ensures stays_on { OnShut result (((D.state (disk_in result)).is_on ≡ true) × ((D.state (disk_in result)).stops ≡ (D.state parts.disk).stops)
             × ((D.state (disk_in result)).faults ≡ (D.state parts.disk).faults)) }
         ensures cause { OnOff result (Rose (D.state parts.disk).stops (D.state (disk_in result)).stops) }

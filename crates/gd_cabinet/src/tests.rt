@@ -10,10 +10,10 @@ ghost use Rattle.gd_store.specs.Opened.{IsOpenable};
 
 use crate::{Answer, Cabinet, CabinetOpened, Locked, Parts, Stop};
 use gd_base::{
-    Block, Core, Device, Event, ListDraws, Loaded, MOST_ENTRIES, Numbered, Reply, Stepped, Text,
-    What,
+    Block, Core, Device, Event, ListDraws, Loaded, MOST_ENTRIES, Numbered, PAYLOAD_LEN, Reply,
+    Stepped, Text, What,
 };
-use gd_disk::{CutUnit, DISK_LEN, Disk, LabDisk, MemoryDisk, MemoryLab};
+use gd_disk::{ArmedCut, CutUnit, DISK_LEN, Disk, LabDisk, MemoryDisk, MemoryLab};
 use gd_store::{CopyState, Found, Made, Room, Store};
 use std::alloc::Global;
 use std::process::Abort;
@@ -307,11 +307,30 @@ fn turned_on<L: LabDisk>(rt: &impl Abort, lab: &mut L) -> Result<(), Fail>
     Ok(lab.power_on()?)
 }
 
-fn arm<L: LabDisk>(rt: &impl Abort, lab: &mut L, count: u32, torn: u8) {
-    assert!(rt; lab.cuts_armed() < 256);
-    assert!(rt; count >= 1);
-    assert!(rt; torn <= 3);
-    lab.arm(CutUnit::Sync, count, torn);
+// A memory of count 0 whose disk was turned on with a cut armed.
+fn armed<L: LabDisk + Drop>(
+    rt: &impl Abort,
+    alloc: Global,
+    lab: L,
+    cut: ArmedCut,
+) -> Result<Tallied<L>, Fail>
+    ensures { IfOk result (λ parts. IsOpenable (L.state parts.disk)) }
+{
+    let mut parts = made(rt, alloc, lab, 0)?;
+    parts.disk.power_off();
+    assert!(rt; parts.disk.cuts_armed() < 256);
+    assert!(rt; cut.count >= 1);
+    assert!(rt; cut.torn <= 3);
+    parts.disk.arm(cut.unit, cut.count, cut.torn);
+    on_again(rt, parts)
+}
+
+fn on_again<L: LabDisk + Drop>(rt: &impl Abort, parts: Tallied<L>) -> Result<Tallied<L>, Fail>
+    ensures { IfOk result (λ parts. IsOpenable (L.state parts.disk)) }
+{
+    let mut parts = parts;
+    turned_on(rt, &mut parts.disk)?;
+    Ok(parts)
 }
 
 // The start has six syncs, so that the cut comes at the third of the bill, which opens copy a.
@@ -320,53 +339,149 @@ fn cut_between_copies<L: LabDisk + Drop>(
     alloc: Global,
     lab: L,
 ) -> Result<(), Fail> {
-    let Parts {
-        core,
-        mut disk,
-        draws,
-        room,
-    } = made(rt, alloc, lab, 0)?;
-    disk.power_off();
-    arm(rt, &mut disk, 9, 1);
-    turned_on(rt, &mut disk)?;
-    let mut cabinet = ready(
-        rt,
-        Parts {
-            core,
-            disk,
-            draws,
-            room,
-        },
-        both(0),
-        1,
-    )?;
+    let cut = ArmedCut {
+        unit: CutUnit::Sync,
+        count: 9,
+        torn: 1,
+    };
+    let mut cabinet = ready(rt, armed(rt, alloc, lab, cut)?, both(0), 1)?;
     assert_eq!(rt; cabinet.submit(&bill(2)), Err(Stop::Off));
-    let Parts {
-        core,
-        mut disk,
-        draws,
-        room,
-    } = cabinet.close();
-    turned_on(rt, &mut disk)?;
+    assert_eq!(rt; cabinet.cuts_armed(), 0);
     let was = Found {
         a: CopyState::Sound(2),
         b: CopyState::Sound(1),
     };
-    let _again = ready(
-        rt,
-        Parts {
-            core,
-            disk,
-            draws,
-            room,
-        },
-        was,
-        3,
-    )?;
+    let _again = ready(rt, on_again(rt, cabinet.close())?, was, 3)?;
     Ok(())
 }
 
 #[test]
 fn a_cut_between_the_copies(rt: HostRuntime) -> Result<(), Fail> {
     cut_between_copies(&rt, rt.alloc(), MemoryLab::new(rt.alloc(), DISK_LEN)?)
+}
+
+// How many entries an opening shows, its start among them.
+fn shown<D: Disk + Drop>(rt: &impl Abort, parts: Tallied<D>) -> Result<u64, Fail>
+    requires { IsOpenable (D.state parts.disk) }
+{
+    match opened(rt, parts) {
+        CabinetOpened::Ready { cabinet, found: _ } => Ok(cabinet.core().count()),
+        _ => Err(Fail::new("not ready")),
+    }
+}
+
+// An opening and a bill, of which a call to the disk fails; and whether that was in the opening.
+fn interrupted<L: LabDisk + Drop>(
+    rt: &impl Abort,
+    parts: Tallied<L>,
+) -> Result<(Tallied<L>, bool), Fail>
+    requires { IsOpenable (L.state parts.disk) }
+{
+    match opened(rt, parts) {
+        CabinetOpened::Off { found: _, parts } => Ok((parts, true)),
+        CabinetOpened::Ready { cabinet, found: _ } => {
+            let mut cabinet = cabinet;
+            assert_eq!(rt; cabinet.submit(&bill(2)), Err(Stop::Off));
+            assert_eq!(rt; cabinet.core().count(), 1);
+            Ok((cabinet.close(), false))
+        }
+        _ => Err(Fail::new("shut")),
+    }
+}
+
+// What stands shows the view before the event, or that with it.
+fn leaves_either<L: LabDisk + Drop>(
+    rt: &impl Abort,
+    parts: Tallied<L>,
+    in_opening: bool,
+) -> Result<(), Fail>
+    requires { IsOpenable (L.state parts.disk) }
+{
+    let (parts, was_opening) = interrupted(rt, parts)?;
+    assert_eq!(rt; was_opening, in_opening);
+    let count = shown(rt, on_again(rt, parts)?)?;
+    if was_opening {
+        assert!(rt; count == 1 || count == 2);
+    } else {
+        assert!(rt; count == 2 || count == 3);
+    }
+    Ok(())
+}
+
+// The start makes six writes and six syncs, and so does the bill.
+fn is_cut_at<L: LabDisk + Drop>(
+    rt: &impl Abort,
+    alloc: Global,
+    lab: L,
+    cut: ArmedCut,
+) -> Result<(), Fail> {
+    leaves_either(rt, armed(rt, alloc, lab, cut)?, cut.count <= 12)
+}
+
+#[test]
+fn each_cut_leaves_one_of_two_views(rt: HostRuntime) -> Result<(), Fail> {
+    for call in 1..25u32 {
+        let cut = ArmedCut {
+            unit: CutUnit::Call,
+            count: call,
+            torn: (call % 4) as u8,
+        };
+        is_cut_at(&rt, rt.alloc(), MemoryLab::new(rt.alloc(), DISK_LEN)?, cut)?;
+    }
+    Ok(())
+}
+
+// The memory is made by 11 calls, and the opening begins with four reads.
+fn is_faulty_at<L: LabDisk + Drop>(
+    rt: &impl Abort,
+    alloc: Global,
+    lab: L,
+    call: u64,
+) -> Result<(), Fail> {
+    leaves_either(rt, made(rt, alloc, lab, 0)?, call <= 16)
+}
+
+#[test]
+fn each_fault_leaves_one_of_two_views(rt: HostRuntime) -> Result<(), Fail> {
+    for call in 1..29u64 {
+        let lab = MemoryLab::faulty(rt.alloc(), DISK_LEN, 11 + call)?;
+        is_faulty_at(&rt, rt.alloc(), lab, call)?;
+    }
+    Ok(())
+}
+
+// A cut that is armed while the cabinet is open comes in its next event.
+#[test]
+fn a_cut_armed_in_an_open_cabinet(rt: HostRuntime) -> Result<(), Fail> {
+    let lab = MemoryLab::new(rt.alloc(), DISK_LEN)?;
+    let mut cabinet = ready(&rt, made(&rt, rt.alloc(), lab, 0)?, both(0), 1)?;
+    assert!(rt; cabinet.cuts_armed() == 0);
+    cabinet.arm(CutUnit::Sync, 6, 0);
+    assert_eq!(rt; cabinet.cuts_armed(), 1);
+    assert_eq!(rt; cabinet.submit(&bill(2)), Err(Stop::Off));
+    assert_eq!(rt; cabinet.cuts_armed(), 0);
+    Ok(())
+}
+
+// What any core writes it loads, and what spells no view it doesn't.
+fn loads_what_it_writes<C: Core>(core: &mut C, none: &[u8; PAYLOAD_LEN]) -> bool {
+    let mut image = [0; PAYLOAD_LEN];
+    core.write_image(&mut image);
+    let count = core.count();
+    let refused = core.load(none);
+    let cleared = core.count();
+    core.load(&image) == Loaded::Read
+        && core.count() == count
+        && refused == Loaded::Differs { kept: [7; 32] }
+        && cleared == 0
+        && core.last(Device::Bill) <= count
+        && core.open_order() == 0
+}
+
+#[test]
+fn a_core_loads_what_it_writes(rt: HostRuntime) -> Result<(), Fail> {
+    let mut core = Tally { count: 5 };
+    assert!(rt; loads_what_it_writes(&mut core, &[255; PAYLOAD_LEN]));
+    assert_eq!(rt; core.count, 5);
+    Ok(())
 }
