@@ -3,12 +3,9 @@ use Rattle.std.proofs.Common.{◌≡◌, ◌∙◌, ap, sym, subst, refl, inl, i
 use Rattle.std.proofs.lemmas.Bool.Decides.{nat_tests}
 use Rattle.std.proofs.lemmas.List.Elements.{All-append, All-cons, All-nil}
 use Rattle.gd_base.specs.Machine.{Machine, Blocks}
-use Rattle.gd_base.specs.Opens.{opens}
-use Rattle.gd_base.specs.Spelled.{Shows, Foreign, Unreadable}
-use Rattle.gd_cabinet.specs.Opened.{IsLocked}
+use Rattle.gd_base.specs.Spelled.{Shows}
 use Rattle.gd_cabinet.specs.Opening.{IsOpening, start_of, started}
-use Rattle.gd_cabinet.specs.Shown.{shows, spelled_boot, IsInBoth, ShowsEither}
-use Rattle.gd_cabinet.specs.declared.locked.Locked.{Locked}
+use Rattle.gd_cabinet.specs.Shown.{shows, IsInBoth, ShowsEither}
 use Rattle.gd_cabinet.proofs.Showing.{settled_shows}
 use Rattle.gd_disk.specs.Disk.{DiskState, IfTold, IsSynced, Loses, Stands}
 use Rattle.gd_disk.specs.Runs.{LeavesOnly}
@@ -58,23 +55,7 @@ pub one_view : {V : Type 0} (M : Machine V) (image : List ℕ) (v w : V) → sho
 one_view M image v w is also = one_shown w v (sym also ∙ is)
 
 module _ {V : Type 0} (M : Machine V) where
-  locked_hides : (why : Locked) (image : List ℕ) → IsLocked M why image → shows M image ≡ Unreadable
-  locked_hides Locked.Lost image is = ap (λ (b : Option (ℕ × List ℕ)). opens M (spelled_boot M b)) is
-  locked_hides Locked.Unreadable image is = ap (λ (b : Option (ℕ × List ℕ)). opens M (spelled_boot M b)) is.1 ∙ is.2
-
-  -- an image that shows a view isn't locked, nor of another setup
-  pub not_locked : (why : Locked) (image : List ℕ) (v : V) → shows M image ≡ Shows v → IsLocked M why image → ⊥
-  not_locked why image v shown is = clash (sym (locked_hides why image is) ∙ shown)
-    where
-      clash : Unreadable ≡ Shows v → ⊥
-      clash e = cc e
-
-  pub not_foreign : (kept image : List ℕ) (v : V) → shows M image ≡ Shows v → shows M image ≡ Foreign kept → ⊥
-  not_foreign kept image v shown is = clash (sym is ∙ shown)
-    where
-      clash : Foreign kept ≡ Shows v → ⊥
-      clash e = cc e
-
+  -- the same machine, by another name
   pub closed_both : (N : Machine V) (v : V) (disk : DiskState) → N ≡ M → ((image : List ℕ) → disk.may_find image → IsInBoth N v image) → (image : List ℕ) → disk.may_find image → IsInBoth M v image
   closed_both N v disk m both image may = subst (λ (O : Machine V). IsInBoth O v image) m (both image may)
 
