@@ -280,14 +280,19 @@ fn memory<L: LabDisk + Drop>(
     Ok((lab, room))
 }
 
+// What is booted after a loss of power now.
+fn boot_after<L: LabDisk>(rt: &impl Abort, lab: &mut L, room: &mut Room) -> Result<Booted, Fail> {
+    lab.power_off();
+    turned_on(rt, lab)?;
+    assert!(rt; lab.len() == DISK_LEN);
+    Ok(boot(lab, room))
+}
+
 // What is found after a loss of power now.
 fn found_after<L: LabDisk + Drop>(rt: &impl Abort, lab: L, room: Room) -> Result<Found, Fail> {
     let mut lab = lab;
     let mut room = room;
-    lab.power_off();
-    turned_on(rt, &mut lab)?;
-    assert!(rt; lab.len() == DISK_LEN);
-    match boot(&mut lab, &mut room) {
+    match boot_after(rt, &mut lab, &mut room)? {
         Booted::Ready { found, sequence: _ } => Ok(found),
         Booted::Lost(found) => Ok(found),
         Booted::Off => Err(Fail::new("off in a boot")),
@@ -327,34 +332,6 @@ fn make_under<L: LabDisk + Drop>(
     match Store::make(lab, room) {
         Made::Done { disk, room } => Ok((true, found_after(rt, disk, room)?)),
         Made::Off { disk, room } => Ok((false, found_after(rt, disk, room)?)),
-    }
-}
-
-// The same of an opening that repairs a copy, of which the byte at this place was altered.
-fn open_under<L: LabDisk + Drop>(
-    rt: &impl Abort,
-    alloc: Global,
-    lab: L,
-    cut: Cut,
-    at: u64,
-) -> Result<(bool, Found), Fail> {
-    let (mut lab, room) = memory(rt, alloc, lab, cut)?;
-    assert!(rt; !lab.powered());
-    assert!(rt; at < lab.len());
-    lab.alter(at, 1);
-    turned_on(rt, &mut lab)?;
-    assert!(rt; lab.len() == DISK_LEN);
-    match Store::open(lab, room) {
-        Opened::Ready { store, found: _ } => {
-            let (lab, room) = store.close();
-            Ok((true, found_after(rt, lab, room)?))
-        }
-        Opened::Off { disk, room } => Ok((false, found_after(rt, disk, room)?)),
-        Opened::Lost {
-            found: _,
-            disk: _,
-            room: _,
-        } => Err(Fail::new("lost")),
     }
 }
 
@@ -466,20 +443,119 @@ fn a_cut_at_each_sync_of_a_making(rt: HostRuntime) -> Result<(), Fail> {
     Ok(())
 }
 
-// A byte of page 3 of a copy.
+// The places of the two copies, and of a byte of page 3 in a copy.
+const COPY_A: u64 = 0;
+
+const COPY_B: u64 = COPY_LEN as u64;
+
 const PAGE_3: u64 = 1073 + 3 * PAGE_LEN as u64;
+
+// The bytes that the copy at this place has after a loss of power now. The power is off again after it.
+fn copy_found<L: LabDisk>(
+    rt: &impl Abort,
+    alloc: Global,
+    lab: &mut L,
+    at: u64,
+) -> Result<Vec<u8>, Fail> {
+    lab.power_off();
+    turned_on(rt, lab)?;
+    assert!(rt; lab.len() == DISK_LEN);
+    assert!(rt; at <= COPY_B);
+    let mut copy = vec![in alloc; 0; COPY_LEN]?;
+    assert!(rt; lab.read(at, &mut copy).is_ok());
+    lab.power_off();
+    Ok(copy)
+}
+
+// Opens a store, and gives the disk back: whether it was opened.
+fn open_and_close<D: Disk + Drop>(rt: &impl Abort, disk: D, room: Room) -> Result<(bool, D), Fail>
+    requires { IsOpenable (D.state disk) }
+{
+    assert!(rt; disk.len() == DISK_LEN);
+    match Store::open(disk, room) {
+        Opened::Ready { store, found: _ } => Ok((true, store.close().0)),
+        Opened::Off { disk, room: _ } => Ok((false, disk)),
+        Opened::Lost {
+            found: _,
+            disk: _,
+            room: _,
+        } => Err(Fail::new("lost")),
+    }
+}
+
+// Alters a byte of page 3 of the copy at this place.
+fn alter_page<L: LabDisk>(rt: &impl Abort, lab: &mut L, at: u64) {
+    assert!(rt; !lab.powered());
+    assert!(rt; lab.len() == DISK_LEN);
+    assert!(rt; at <= COPY_B);
+    lab.alter(at + PAGE_3, 1);
+}
+
+// Whether an opening succeeds under a cut, where page 3 of the copy at `bad` was altered and the copy at `sound` holds
+// the payload at sequence 1, and what is booted after it. That payload is booted, and the sound copy stays as it was.
+fn repair_under<L: LabDisk + Drop>(
+    rt: &impl Abort,
+    alloc: Global,
+    lab: L,
+    cut: Cut,
+    bad: u64,
+    sound: u64,
+) -> Result<(bool, Booted), Fail> {
+    let (mut lab, room) = memory(rt, alloc, lab, cut)?;
+    let before = copy_found(rt, alloc, &mut lab, sound)?;
+    alter_page(rt, &mut lab, bad);
+    turned_on(rt, &mut lab)?;
+    let (is_done, mut lab) = open_and_close(rt, lab, room)?;
+    let mut room = Room::new(alloc)?;
+    let booted = boot_after(rt, &mut lab, &mut room)?;
+    assert!(rt; room.payload()[..] == payload(alloc, 1)?[..], "{cut:?}");
+    assert!(rt;
+        copy_found(rt, alloc, &mut lab, sound)? == before,
+        "{cut:?}"
+    );
+    Ok((is_done, booted))
+}
+
+// The cuts of a repair, each with the call that it falls on: the six calls, and the three syncs among them, which are
+// each second call. The cut behind each of them comes too late.
+fn cuts_of_a_repair(torn: u8) -> [(Cut, u32); 11] {
+    [
+        (by_calls(1, torn), 1),
+        (by_calls(2, torn), 2),
+        (by_calls(3, torn), 3),
+        (by_calls(4, torn), 4),
+        (by_calls(5, torn), 5),
+        (by_calls(6, torn), 6),
+        (by_calls(7, torn), 7),
+        (by_syncs(1, torn), 2),
+        (by_syncs(2, torn), 4),
+        (by_syncs(3, torn), 6),
+        (by_syncs(4, torn), 7),
+    ]
+}
+
+// What the copy that is repaired is found to be after a cut at this call.
+fn left_by_repair(call: u32, torn: u8) -> CopyState {
+    written(
+        call,
+        torn,
+        CopyState::Bad(Why::BadPage(3)),
+        CopyState::Sound(1),
+    )
+}
 
 #[test]
 fn a_cut_in_a_repair_of_copy_a(rt: HostRuntime) -> Result<(), Fail> {
-    let (bad, sound) = (CopyState::Bad(Why::BadPage(3)), CopyState::Sound(1));
     for torn in 0..4 {
-        for call in 1..8 {
+        for (cut, call) in cuts_of_a_repair(torn) {
             let lab = MemoryLab::new(rt.alloc(), DISK_LEN)?;
-            let cut = by_calls(call, torn);
-            let (is_done, found) = open_under(&rt, rt.alloc(), lab, cut, PAGE_3)?;
-            let a = written(call, torn, bad, sound);
-            assert_eq!(rt; is_done, call == 7, "{call} {torn}");
-            assert_eq!(rt; found, Found { a, b: sound }, "{call} {torn}");
+            let (is_done, booted) = repair_under(&rt, rt.alloc(), lab, cut, COPY_A, COPY_B)?;
+            let found = Found {
+                a: left_by_repair(call, torn),
+                b: CopyState::Sound(1),
+            };
+            assert_eq!(rt; is_done, call == 7, "{cut:?}");
+            assert_eq!(rt; booted, Booted::Ready { found, sequence: 1 }, "{cut:?}");
         }
     }
     Ok(())
@@ -487,16 +563,16 @@ fn a_cut_in_a_repair_of_copy_a(rt: HostRuntime) -> Result<(), Fail> {
 
 #[test]
 fn a_cut_in_a_repair_of_copy_b(rt: HostRuntime) -> Result<(), Fail> {
-    let (bad, sound) = (CopyState::Bad(Why::BadPage(3)), CopyState::Sound(1));
-    let at = COPY_LEN as u64 + PAGE_3;
     for torn in 0..4 {
-        for (sync, call) in [(1, 2), (2, 4), (3, 6), (4, 7)] {
+        for (cut, call) in cuts_of_a_repair(torn) {
             let lab = MemoryLab::new(rt.alloc(), DISK_LEN)?;
-            let cut = by_syncs(sync, torn);
-            let (is_done, found) = open_under(&rt, rt.alloc(), lab, cut, at)?;
-            let b = written(call, torn, bad, sound);
-            assert_eq!(rt; is_done, call == 7, "{sync} {torn}");
-            assert_eq!(rt; found, Found { a: sound, b }, "{sync} {torn}");
+            let (is_done, booted) = repair_under(&rt, rt.alloc(), lab, cut, COPY_B, COPY_A)?;
+            let found = Found {
+                a: CopyState::Sound(1),
+                b: left_by_repair(call, torn),
+            };
+            assert_eq!(rt; is_done, call == 7, "{cut:?}");
+            assert_eq!(rt; booted, Booted::Ready { found, sequence: 1 }, "{cut:?}");
         }
     }
     Ok(())
