@@ -1,6 +1,5 @@
 -- Rules of a view that the next entry keeps, together.
-use Rattle.std.proofs.Common.{◌≡◌, ◌≤◌, ◌==◌, ◌+◌, ◌&&◌, ℕ, true, nat_le, length, map, refl, ap, arith}
-use Rattle.std.proofs.lemmas.Bool.Decides.{nat_tests}
+use Rattle.std.proofs.Common.{◌≡◌, ◌+◌, ◌&&◌, true, length, map, refl, ap}
 use Rattle.gd_base.specs.Entry.{Entry}
 use Rattle.gd_base.specs.Kept.{kept_rules, KeepsRules}
 use Rattle.gd_base.specs.Spelling.{view_rules, fall_from, play_limit, are_places}
@@ -13,19 +12,7 @@ use Rattle.gd_base.proofs.KeptOpen.{one_open_kept}
 use Rattle.gd_base.proofs.KeptOrder.{order_kept}
 use Rattle.gd_base.proofs.KeptPlaces.{events_fall, bills_fall, vouchers_fall}
 use Rattle.gd_base.proofs.KeptRules.{count_kept, orders_kept, devices_kept, lists_short}
-use Rattle.gd_base.proofs.Rules.{all_told, all_hold, both}
-
-test_of : (m n : ℕ) → m ≡ n → (m == n) ≡ true
-test_of m n h = grind (arith, nat_tests, h)
-
-is_so : (m n : ℕ) → (m == n) ≡ true → m ≡ n
-is_so m n h = grind (arith, nat_tests, h)
-
-test_le : (m n : ℕ) → m ≤ n → nat_le m n ≡ true
-test_le m n h = grind (arith, nat_tests, h)
-
-at_most : (m n : ℕ) → nat_le m n ≡ true → m ≤ n
-at_most m n h = grind (arith, nat_tests, h)
+use Rattle.gd_base.proofs.Rules.{all_hold, all_told, at_most, both, is_equal, is_so, is_within}
 
 -- places of events, bills and vouchers
 abbrev Places : View → Type 0
@@ -52,9 +39,9 @@ keeps_rules setup digest spelled blocks lap v e h k next =
     let judged = ap (λ (y : Entry). y.reply) next.made in
     let count = count_kept setup v e next.room in
     let kept = devices_kept setup v e (is_so (length v.kept) 9 t.1.1.1.1.1.0) r.1.0 in
-    let books = test_of _ _ (books_kept setup digest spelled blocks lap v e h k next) in
+    let books = is_equal _ _ (books_kept setup digest spelled blocks lap v e h k next) in
     let counts = counts_kept setup v e (is_so (length v.totals) 16 t.1.1.0) r.1.1.1.0 in
-    let orders = test_le _ _ (orders_kept setup v e (at_most v.orders v.count r.1.1.1.1.0)) in
+    let orders = is_within _ _ (orders_kept setup v e (at_most v.orders v.count r.1.1.1.1.0)) in
     let p = places_of v x.0 in
     let events = events_fall setup v e p.0 in
     let bills = bills_fall setup v e p.1 in

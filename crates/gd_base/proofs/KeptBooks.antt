@@ -21,16 +21,13 @@ use Rattle.gd_base.specs.View.{View}
 use Rattle.gd_base.specs.ViewOf.{with_entry, view_after, from_view}
 use Rattle.gd_base.proofs.BooksLegal.{AreCoins, IsWhole, Balances-legal}
 use Rattle.gd_base.proofs.Itself.{possible-itself}
-use Rattle.gd_base.proofs.Rules.{both, all_told}
+use Rattle.gd_base.proofs.Rules.{all_told, both, is_so}
 use Rattle.gd_base.proofs.ViewOver.{view_over-is}
 
 -- an order to the hopper that keeps the rules is a number of coins, at least one
 from_quotient : (q coin amount rest : ℕ) → coin * q + rest ≡ amount → rest ≡ 0 → 1 ≤ amount → IsWhole coin OrderKind.Hopper amount
 from_quotient zero coin amount rest e none some = absurd (grind (arith, e, none, some))
 from_quotient (suc k) coin amount rest e none some = (k, grind (arith, e, none))
-
-is_so : (m n : ℕ) → (m == n) ≡ true → m ≡ n
-is_so m n h = grind (arith, nat_tests, h)
 
 at_least : (n : ℕ) → nat_le 1 n ≡ true → 1 ≤ n
 at_least n h = grind (arith, nat_tests, h)

@@ -63,7 +63,7 @@ small_enough : (is_small : Bool) (x : Option (Option Handpay)) (h : Option Handp
 small_enough true x h p = refl
 small_enough false x h p = absurd (cc p)
 
-no_win : (setup : Setup) (h : Option Handpay) → or_else (handpay_of_win setup 0) h ≡ h
+pub no_win : (setup : Setup) (h : Option Handpay) → or_else (handpay_of_win setup 0) h ≡ h
 no_win setup h = small_enough (nat_lt 0 setup.handpay_limit) _ h (grind (arith, nat_tests, setup.has_handpay_limit))
 
 with_no_win : (setup : Setup) (a c : Bool) (h : Option Handpay) → One a (is_some h) c → One a (is_some (or_else (handpay_of_win setup 0) h)) c

@@ -19,6 +19,7 @@ pub mod Records
 pub mod OneView
 pub mod Same
 pub mod SoFar
+pub mod SoFarRules
 pub mod SoFarSteps
 pub mod Fronts
 pub mod Itself
@@ -32,5 +33,6 @@ pub mod KeptOpen
 pub mod OneSpelled
 pub mod Exact
 pub mod Whole
+pub mod Wins
 pub mod Kept
 pub mod KeyStream

@@ -7,11 +7,12 @@ use Rattle.gd_base.specs.declared.setup.Setup.{Setup}
 use Rattle.gd_base.specs.Draws.{next_index}
 use Rattle.gd_base.specs.Entry.{Entry}
 use Rattle.gd_base.specs.Legal.{IsLegal}
-use Rattle.gd_base.specs.Machine.{Blocks}
+use Rattle.gd_base.specs.Machine.{Machine, Blocks}
+use Rattle.gd_base.specs.SoFar.{machine_so_far}
 use Rattle.gd_base.specs.Spelled.{Spelled}
 use Rattle.gd_base.specs.TheMachine.{machine}
 use Rattle.gd_base.specs.View.{View}
-use Rattle.gd_base.specs.ViewOf.{with_entry, empty_view}
+use Rattle.gd_base.specs.ViewOf.{with_entry}
 
 -- what an entry does to the index of the next block
 pub record MovesIndex (setup : Setup) (v : View) (e : Entry) : Type 0 where
@@ -19,18 +20,27 @@ pub record MovesIndex (setup : Setup) (v : View) (e : Entry) : Type 0 where
   pub at_play : (game : Game) (bet : ℕ) → e.event ≡ Event.Play game bet → e.reply ≡ Reply.Taken → next_index (with_entry setup v e) ≡ next_index v + 1
   pub at_start : e.event ≡ Event.Start → e.reply ≡ Reply.Taken → next_index (with_entry setup v e) ≡ next_index v + 1
 
--- in a legal history a later play has a greater index
-abbrev pub RiseStrictly : Type 0
-RiseStrictly =
-    (setup : Setup) (digest : List ℕ) (spelled : List ℕ → Spelled View) (blocks : Blocks) (lap : ℕ) (opening : View)
-    (d : Entry) (between : List Entry) (e : Entry) (past : List Entry) (later earlier : ℕ × List ℕ)
-    → IsLegal (machine setup digest spelled) blocks lap opening (d ∷ (between ++ (e ∷ past))) → d.draw ≡ Some later → e.draw ≡ Some earlier
+-- in a legal history of a machine a later play has a greater index
+abbrev pub RiseIn : Machine View → Type 0
+RiseIn M =
+    (blocks : Blocks) (lap : ℕ) (opening : View) (d : Entry) (between : List Entry) (e : Entry) (past : List Entry) (later earlier : ℕ × List ℕ)
+    → IsLegal M blocks lap opening (d ∷ (between ++ (e ∷ past))) → d.draw ≡ Some later → e.draw ≡ Some earlier
     → earlier.0 < later.0
 
--- in a legal history over the empty view that begins with a start no index is 0
-abbrev pub NoneIsZero : Type 0
-NoneIsZero =
-    (setup : Setup) (digest : List ℕ) (spelled : List ℕ → Spelled View) (blocks : Blocks) (lap : ℕ)
-    (d : Entry) (between : List Entry) (start : Entry) (draw : ℕ × List ℕ)
-    → IsLegal (machine setup digest spelled) blocks lap (empty_view digest) (d ∷ (between ++ (start ∷ []))) → start.event ≡ Event.Start → d.draw ≡ Some draw
+-- and in one over the empty view that begins with a start no index is 0
+abbrev pub NoneIsZeroIn : Machine View → Type 0
+NoneIsZeroIn M =
+    (blocks : Blocks) (lap : ℕ) (d : Entry) (between : List Entry) (start : Entry) (draw : ℕ × List ℕ)
+    → IsLegal M blocks lap M.empty (d ∷ (between ++ (start ∷ []))) → start.event ≡ Event.Start → d.draw ≡ Some draw
     → 1 ≤ draw.0
+
+-- so it is in the machine under any setup
+abbrev pub RiseStrictly : Type 0
+RiseStrictly = (setup : Setup) (digest : List ℕ) (spelled : List ℕ → Spelled View) → RiseIn (machine setup digest spelled)
+
+abbrev pub NoneIsZero : Type 0
+NoneIsZero = (setup : Setup) (digest : List ℕ) (spelled : List ℕ → Spelled View) → NoneIsZeroIn (machine setup digest spelled)
+
+-- and in what is built of it
+abbrev pub RiseSoFar : Type 0
+RiseSoFar = (setup : Setup) → RiseIn (machine_so_far setup) × NoneIsZeroIn (machine_so_far setup)

@@ -5,6 +5,7 @@ use Rattle.gd_base.specs.declared.event.Condition.{Condition}
 use Rattle.gd_base.specs.declared.event.Game.{Game}
 use Rattle.gd_base.specs.declared.event.Refusal.{Refusal}
 use Rattle.gd_base.specs.declared.event.Reply.{Reply}
+use Rattle.gd_base.specs.declared.layout.TheConstants.{HEAD_LEN, OPEN_PLAY_LEN, PLAYS_LEN, EVENTS_LEN, BILLS_LEN, VOUCHERS_LEN}
 use Rattle.gd_base.specs.declared.play.BillRecord.{BillRecord}
 use Rattle.gd_base.specs.declared.play.EventRecord.{EventRecord}
 use Rattle.gd_base.specs.declared.play.Handpay.{Handpay}
@@ -148,9 +149,9 @@ head_bytes v =
     ++ order_bytes v.orders v.order ++ flat_map kept_bytes v.kept
     ++ two (length v.plays) ++ two (length v.events) ++ two (length v.bills) ++ two (length v.vouchers)
 
--- 512 bytes of totals, the open play up to 4,096, the four lists in places of their own, 16,384 bytes in all
+-- the head, the open play, and the four lists in places of their own
 abbrev pub payload_of : View → List ℕ
 payload_of v =
-    filled 512 (head_bytes v) ++ filled 3584 (open_bytes v.play)
-    ++ filled 1860 (flat_map play_bytes v.plays) ++ filled 1700 (flat_map event_bytes v.events)
-    ++ filled 60 (flat_map bill_bytes v.bills) ++ filled 8668 (flat_map voucher_bytes v.vouchers)
+    filled HEAD_LEN (head_bytes v) ++ filled OPEN_PLAY_LEN (open_bytes v.play)
+    ++ filled PLAYS_LEN (flat_map play_bytes v.plays) ++ filled EVENTS_LEN (flat_map event_bytes v.events)
+    ++ filled BILLS_LEN (flat_map bill_bytes v.bills) ++ filled VOUCHERS_LEN (flat_map voucher_bytes v.vouchers)

@@ -1,6 +1,6 @@
 -- Worked rows of payloads, to be computed: their length, and views that keep the rules of a view.
 use Rattle.std.specs.Prelude.{◌≡◌, IsTrue, length, replicate}
-use Rattle.gd_base.specs.declared.machine_core.TheConstants.{PAYLOAD_LEN}
+use Rattle.gd_base.specs.declared.layout.TheConstants.{PAYLOAD_LEN}
 use Rattle.gd_base.specs.declared.setup.Setup.{Setup}
 use Rattle.gd_base.specs.BuiltIn.{built_in_setup}
 use Rattle.gd_base.specs.HistoryRows.{evening, gambles, open_pick}

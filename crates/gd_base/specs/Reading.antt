@@ -1,13 +1,28 @@
 -- What stands at a place of a payload, read back.
-use Rattle.std.specs.Prelude.{ℕ, zero, suc, ◌+◌, ◌==◌, if◌then◌else◌, List, take, drop, slice_index, Option, Some, None}
-use Rattle.std.specs.Int.{w64, from_be_bytes}
+use Rattle.std.specs.Prelude.{ℕ, ◌+◌, ◌-◌, ◌==◌, nat_lt, if◌then◌else◌, List, [], ◌∷◌, take, drop, slice_index, Option, Some, None}
+use Rattle.std.specs.Int.{w32, w64, from_be_bytes}
 use Rattle.gd_base.specs.declared.event.Condition.{Condition}
+use Rattle.gd_base.specs.declared.event.Game.{Game}
 use Rattle.gd_base.specs.declared.event.Refusal.{Refusal}
 use Rattle.gd_base.specs.declared.event.Reply.{Reply}
+use Rattle.gd_base.specs.declared.play.Handpay.{Handpay}
+use Rattle.gd_base.specs.declared.play.PlayRecord.{PlayRecord}
 
 -- the number in the eight bytes at a place
 unfoldable pub number_at : ℕ → List ℕ → ℕ
 number_at place payload = from_be_bytes w64 (take 8 (drop place payload))
+
+-- and in the four bytes
+unfoldable pub short_at : ℕ → List ℕ → ℕ
+short_at place payload = from_be_bytes w32 (take 4 (drop place payload))
+
+-- sixteen numbers in a row
+abbrev pub sixteen_at : ℕ → List ℕ → List ℕ
+sixteen_at place payload =
+    number_at place payload ∷ number_at (place + 8) payload ∷ number_at (place + 16) payload ∷ number_at (place + 24) payload
+    ∷ number_at (place + 32) payload ∷ number_at (place + 40) payload ∷ number_at (place + 48) payload ∷ number_at (place + 56) payload
+    ∷ number_at (place + 64) payload ∷ number_at (place + 72) payload ∷ number_at (place + 80) payload ∷ number_at (place + 88) payload
+    ∷ number_at (place + 96) payload ∷ number_at (place + 104) payload ∷ number_at (place + 112) payload ∷ number_at (place + 120) payload ∷ []
 
 -- the condition, the refusal and the reply of these numbers; a number that none has is read as some one
 abbrev pub condition_of : ℕ → Condition
@@ -53,3 +68,39 @@ reply_of kind refusal condition =
 abbrev pub kept_read : ℕ → List ℕ → ℕ × Option Reply
 kept_read place payload =
     (number_at place payload, reply_of (slice_index payload (place + 8)) (slice_index payload (place + 9)) (slice_index payload (place + 10)))
+
+-- the open handpay, at a place; a kind that none has is read as some one
+abbrev pub handpay_read : ℕ → List ℕ → Option Handpay
+handpay_read place payload =
+    if slice_index payload place == 0 then None
+    else Some (record { win = slice_index payload place == 1; amount = number_at (place + 2) payload })
+
+-- ================ the record of a play
+
+abbrev pub game_of : ℕ → Game
+game_of n = if n == 1 then Game.Reels else Game.Poker
+
+-- no choice is 0, a pick its door and a hold 32 and its mask
+abbrev pub choice_of : ℕ → Option ℕ
+choice_of n = if n == 0 then None else Some (if nat_lt n 32 then n else n - 32)
+
+abbrev pub play_read : ℕ → List ℕ → PlayRecord
+play_read place payload = record {
+  number = number_at place payload;
+  index = number_at (place + 8) payload;
+  words = sixteen_at (place + 16) payload;
+  game = game_of (slice_index payload (place + 144));
+  bet = slice_index payload (place + 145);
+  wager = short_at (place + 146) payload;
+  choice = choice_of (slice_index payload (place + 150));
+  turns = slice_index payload (place + 151);
+  colours = slice_index payload (place + 152);
+  win = number_at (place + 154) payload;
+  before = number_at (place + 162) payload;
+  after = number_at (place + 170) payload;
+  place = number_at (place + 178) payload;
+}
+
+-- a play behind a byte that isn't 0, or none
+abbrev pub open_read : ℕ → List ℕ → Option PlayRecord
+open_read place payload = if slice_index payload place == 0 then None else Some (play_read (place + 1) payload)

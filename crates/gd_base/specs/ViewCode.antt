@@ -1,5 +1,5 @@
 -- A view is data: a code by which a proof tells two views apart.
-use Rattle.std.specs.Prelude.{◌≡◌, refl, ℕ, ◌==◌, if◌then◌else◌, Bool, true, false, List, Option, Some, None}
+use Rattle.std.specs.Prelude.{◌≡◌, refl, ℕ, if◌then◌else◌, Bool, true, false, List, Option, Some, None}
 use Rattle.std.specs.Coded.{Coded, code_by, coded×, coded_bool, coded_list, coded_option, coded_ℕ}
 use Rattle.gd_base.specs.declared.event.Condition.{Condition}
 use Rattle.gd_base.specs.declared.event.Game.{Game}

@@ -2,9 +2,11 @@
 //! way into `specs/`.
 #![tactic(auto)]
 
+mod chance;
 mod draws;
 mod event;
 pub mod laws;
+mod layout;
 mod machine_core;
 mod names;
 mod play;
@@ -18,11 +20,16 @@ mod tables;
 mod tests;
 mod text;
 
+pub use chance::pick;
 pub use draws::{Draws, ListDraws};
 pub use event::{
     Colour, Condition, Device, Door, Event, Game, METERS, Meter, Refusal, Reply, Tilt,
 };
-pub use machine_core::{Core, MOST_ENTRIES, PAYLOAD_LEN};
+pub use layout::{
+    BALANCE_AT, BILLS_LEN, COUNT_AT, EVENTS_LEN, HANDPAY_AT, HEAD_LEN, KEPT_AT, KEPT_LEN,
+    OPEN_PLAY_LEN, PAYLOAD_LEN, PLAY_LEN, PLAYS_LEN, TOTALS_AT, VOUCHERS_LEN,
+};
+pub use machine_core::{Core, MOST_ENTRIES};
 pub use play::{
     BILLS_KEPT, BillRecord, Block, Choices, EVENTS_KEPT, EventRecord, Handpay, Order, OrderKind,
     PLAYS_KEPT, PlayRecord, Rank, Stage, StageOpen, VOUCHERS_KEPT, VoucherRecord,

@@ -8,12 +8,10 @@ ghost use Rattle.gd_base.specs.Opens.{view_loaded};
 ghost use Rattle.gd_base.specs.Spelled.{Spelled, Shows, loaded};
 
 use super::event::Device;
+use super::layout::PAYLOAD_LEN;
 use super::play::Block;
 use super::step::{Loaded, Numbered, Stepped, What};
 use super::text::Text;
-
-/// The length of a payload in bytes.
-pub const PAYLOAD_LEN: usize = 16384;
 
 /// The most entries of a history: 2^36.
 pub const MOST_ENTRIES: u64 = 68719476736;

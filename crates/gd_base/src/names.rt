@@ -1,9 +1,10 @@
 //! The names that texts use. docs/FORMATS.md lists them.
 
 ghost use Rattle.std.specs.Prelude.{◌≡◌, ◌≤◌, length};
-ghost use Rattle.gd_base.specs.Names.{device_name, condition_name, meter_name, refusal_name};
+ghost use Rattle.gd_base.specs.Names.{device_name, condition_name, game_name, meter_name, phase_name, refusal_name};
 
-use super::event::{Condition, Device, Meter, Refusal};
+use super::event::{Condition, Device, Game, Meter, Refusal};
+use super::play::StageOpen;
 
 impl Device {
     /// The device's name in reports, scripts and station lines, as `bill`.
@@ -43,6 +44,34 @@ impl Condition {
             Condition::PrintFail => "print-fail",
             Condition::HopperEmpty => "hopper-empty",
             Condition::Handpay => "handpay",
+        }
+    }
+}
+
+impl Game {
+    /// The game's name in the lines of a play, as `reels`.
+    pub fn name(&self) -> &'static str
+        ensures value { result.now ≡ game_name self.now }
+        ensures short { length result.now ≤ 5 }
+    {
+        match self {
+            Game::Reels => "reels",
+            Game::Poker => "poker",
+        }
+    }
+}
+
+impl StageOpen {
+    /// The stage's name in the lines of a play, as `pick`.
+    pub fn name(&self) -> &'static str
+        ensures value { result.now ≡ phase_name self.now }
+        ensures short { length result.now ≤ 6 }
+    {
+        match self {
+            StageOpen::Pick => "pick",
+            StageOpen::Hold => "hold",
+            StageOpen::Gamble => "gamble",
+            StageOpen::Ended => "ended",
         }
     }
 }

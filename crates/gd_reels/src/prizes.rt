@@ -2,8 +2,7 @@
 ghost use Rattle.std.specs.Prelude.{◌≡◌, ◌≤◌};
 ghost use Rattle.gd_base.specs.Chance.{prize as prize_of};
 
-use super::showing::pick;
-use gd_base::{Block, Setup};
+use gd_base::{Block, Setup, pick};
 
 /// The prize behind a door, from 1 to 5, in credits for each credit of the bet. Word 10 places the prizes.
 pub fn prize(setup: &Setup, words: &Block, door: u8) -> u32

@@ -1,11 +1,11 @@
 //! Where the reels stop, and what they show there.
-ghost use Rattle.std.specs.Prelude.{◌≡◌, ◌<◌, ◌+◌, ◌%◌, slice_index, IsTrue};
+ghost use Rattle.std.specs.Prelude.{◌≡◌, ◌+◌, ◌%◌, slice_index, IsTrue};
 ghost use Rattle.std.specs.List.{list_all};
-ghost use Rattle.gd_base.specs.Chance.{pick as pick_of, stops as stops_of, row as row_of, window as window_of};
+ghost use Rattle.gd_base.specs.Chance.{stops as stops_of, row as row_of, window as window_of};
 ghost use Rattle.gd_base.specs.SetupRules.{is_letter, are_strips};
 
 use super::face::Window;
-use gd_base::{Block, Setup};
+use gd_base::{Block, Setup, pick};
 
 /// What the reels show by words 0 to 4 of a block. Its letters are those of strips.
 pub fn window(setup: &Setup, words: &Block) -> Window
@@ -57,13 +57,4 @@ fn stops(words: &Block) -> [u8; 5]
         pick(words[3], 32),
         pick(words[4], 32),
     ]
-}
-
-// One of n places, by a word.
-pub(crate) fn pick(word: u64, n: u8) -> u8
-    requires { 0 < n }
-    ensures place { result ≡ pick_of word n }
-    ensures below { result < n }
-{
-    ((u128::from(word) * u128::from(n)) >> 64) as u8
 }

@@ -3,6 +3,7 @@
 ghost use Rattle.std.specs.Prelude.{◌≡◌, List, ◌∷◌};
 ghost use Rattle.gd_base.specs.declared.setup.Setup.{Setup};
 ghost use Rattle.gd_base.specs.Entry.{Entry};
+ghost use Rattle.gd_base.specs.Indexes.{RiseSoFar};
 ghost use Rattle.gd_base.specs.Legal.{view_over};
 ghost use Rattle.gd_base.specs.SoFar.{machine_so_far, without_recall};
 ghost use Rattle.gd_base.specs.View.{View};
@@ -12,4 +13,9 @@ ghost use Rattle.gd_base.specs.ViewOf.{view_after, from_view};
 pub fn whole_history()
     ensures { (setup : Setup) (v : View) (e : Entry) (past : List Entry)
         → view_over (machine_so_far setup) v (e ∷ past) ≡ without_recall (view_after (from_view setup v) (e ∷ past)) }
+{}
+
+/// In one legal history of it no block is used twice, and none has index 0 where the history begins with a start.
+pub fn no_block_twice()
+    ensures { RiseSoFar }
 {}

@@ -1,0 +1,5 @@
+use Rattle.gd_base.proofs.Indexes.{rise_so_far}
+use Rattle.gd_base.proofs.laws.so_far.no_block_twice.Goals as goal
+
+pub returns : goal.returns
+returns c = rise_so_far
