@@ -1,12 +1,15 @@
 //! The program: one call of `cabinet`, on standard input and standard output.
 #![tactic(auto)]
 
-use gd_base::{ListDraws, MemorySource, Reading, Writing};
+use gd_base::{ChaChaDraws, MemorySource, Reading, Writing};
 use gd_disk::{DISK_LEN, MemoryDisk, MemoryLab};
 use gd_top::{Status, cabinet};
 use std::alloc::AllocError;
 use std::process::ExitCode;
 use std::{env, io};
+
+/// The seed of the random words where none is given.
+const SEED: u64 = 1;
 
 fn main(rt: HostRuntime) -> ExitCode {
     match run(&rt) {
@@ -40,7 +43,7 @@ fn run(rt: &HostRuntime) -> Result<Status, AllocError> {
         &mut Writing::new(io::writer(rt)),
         MemoryLab::new(alloc, DISK_LEN)?,
         MemoryDisk::of(vec![in alloc; 0; DISK_LEN as usize]?, None),
-        ListDraws::of(Vec::new(alloc)),
+        ChaChaDraws::new(SEED),
     );
     Ok(ended.status)
 }

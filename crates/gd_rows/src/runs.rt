@@ -1,7 +1,7 @@
 // Runs of the program over what is in memory, and what they leave.
 ghost use Rattle.std.specs.Prelude.{◌≡◌, [], true};
 
-use gd_base::{ListDraws, MemorySink, MemorySource, Source};
+use gd_base::{Block, ListDraws, MemorySink, MemorySource, Source};
 use gd_disk::{DISK_LEN, LabDisk, MemoryDisk};
 use gd_store::{Booted, CopyState, Room, boot};
 use gd_top::{Status, cabinet};
@@ -17,7 +17,7 @@ pub(crate) struct Run<L> {
     pub(crate) lab: L,
 }
 
-// Runs the program over a laboratory, with room for as many bytes of output.
+// Runs the program over a laboratory, with room for as many bytes of output. Each block is of zeros.
 pub(crate) fn trial<S: Source + Drop, L: LabDisk + Drop>(
     alloc: Global,
     words: &[&str],
@@ -30,11 +30,28 @@ pub(crate) fn trial<S: Source + Drop, L: LabDisk + Drop>(
     requires armed { (L.state lab).armed ≡ [] }
     requires found { (L.state lab).found ≡ [] }
 {
+    trial_with_blocks(alloc, words, script, room, lab, Vec::new(alloc))
+}
+
+// The same with these blocks, from index 0 on, and zeros past them.
+pub(crate) fn trial_with_blocks<S: Source + Drop, L: LabDisk + Drop>(
+    alloc: Global,
+    words: &[&str],
+    script: S,
+    room: usize,
+    lab: L,
+    blocks: Vec<Block>,
+) -> Result<Run<L>, Fail>
+    requires size { (L.state lab).size ≡ DISK_LEN }
+    requires is_on { (L.state lab).is_on ≡ true }
+    requires armed { (L.state lab).armed ≡ [] }
+    requires found { (L.state lab).found ≡ [] }
+{
     let mut script = script;
     let mut setup = MemorySource::of(Vec::new(alloc), None);
     let mut output = MemorySink::with_room(alloc, room)?;
     let disk = MemoryDisk::of(vec![in alloc; 0; DISK_LEN as usize]?, None);
-    let draws = ListDraws::of(Vec::new(alloc));
+    let draws = ListDraws::of(blocks);
     let ended = cabinet(
         alloc,
         words,

@@ -1,6 +1,6 @@
 // What no clause says: that a run with ample memory meets no want of it, and the reports as the formats have them.
-use crate::runs::{are_sound, script, trial};
-use gd_base::MemorySource;
+use crate::runs::{are_sound, script, trial, trial_with_blocks};
+use gd_base::{Block, MemorySource};
 use gd_disk::{DISK_LEN, LabDisk, MemoryLab};
 use gd_top::Status;
 use std::alloc::Global;
@@ -33,6 +33,34 @@ fn power_cut_at_rest(rt: HostRuntime) -> Result<(), Fail> {
         b"power 1: a sound 0, b sound 0\nstart at 1\nack bill 1 taken at 2\noff\npower 2: a sound 2, b sound 2\nstart at 3\nBillIn 0000000500\nCoinIn 0000000000\nVoucherIn 0000000000\nWagered 0000000000\nWon 0000000000\nVoucherOut 0000000000\nCoinOut 0000000000\nHandWin 0000000000\nHandCancel 0000000000\nGamesPlayed 0000000000\nGamesWon 0000000000\nPowerUps 0000000002\nLogicOpen 0000000000\nMainOpen 0000000000\nCashboxOpen 0000000000\nDropOpen 0000000000\nend at 3 credit 500\n".as_slice()
     );
     are_sound(&rt, alloc, run.lab, 3)
+}
+
+// Words by which the reels show three scatters, and the prizes 2, 4, 6, 10 and 20 are turned by two.
+fn three_scatters() -> Block {
+    let mut words = [0; 16];
+    words[0] = 0x3800_0000_0000_0000;
+    words[2] = 0x6800_0000_0000_0000;
+    words[10] = 0x6666_6666_6666_6667;
+    words
+}
+
+// A draw stands through a power loss before its pick. Behind door 2 is 10 times 9 credits, which are 450 cents.
+#[test]
+fn kept_draw_shows_state(rt: HostRuntime) -> Result<(), Fail> {
+    let alloc = rt.alloc();
+    let blocks = vec![in alloc; [0; 16], three_scatters()]?;
+    let lines = script(
+        alloc,
+        b"bill 500\nplay reels 9\noff\non\nshow state\npick 2\ntake\n",
+    )?;
+    let lab = MemoryLab::new(alloc, DISK_LEN)?;
+    let run = trial_with_blocks(alloc, &["trial"], lines, 1000, lab, blocks)?;
+    assert_eq!(rt; run.status, Status::Done);
+    assert_eq!(rt;
+        run.output.bytes(),
+        b"power 1: a sound 0, b sound 0\nstart at 1\nack bill 1 taken at 2\nack player 1 taken at 3\noff\npower 2: a sound 3, b sound 3\nstart at 4\ncredit 455\ncondition none\norder none\nhandpay none\nplay 1 block 1 reels bet 9 wager 45\nwindow SSSFC AFACF BEDEB\nstage pick win 0\nack player 2 taken at 5\nack player 3 taken at 6\nend at 6 credit 905\n".as_slice()
+    );
+    are_sound(&rt, alloc, run.lab, 6)
 }
 
 #[test]

@@ -1,18 +1,19 @@
--- The first page of a payload, as it is written piece by piece.
-use Rattle.std.proofs.Common.{◌≡◌, ◌∙◌, ap, sym, refl, ℕ, ◌+◌, ◌*◌, ◌<◌, ◌≤◌, List, [], ◌∷◌, ◌++◌, length, take, drop, take-append-drop, append-nil, get_or, replicate, arith, append_assoc, add-one, length-append, Option}
+-- Pieces that are put in a row, and the head of a payload, as it is written piece by piece.
+use Rattle.std.proofs.Common.{◌≡◌, ◌∙◌, ap, sym, refl, ℕ, ◌+◌, ◌*◌, ◌<◌, ◌≤◌, List, [], ◌∷◌, ◌++◌, length, take, drop, append-nil, get_or, replicate, arith, append_assoc, add-one, length-append, Option, Some, None}
 use Rattle.std.specs.List.{flat_map}
-use Rattle.std.proofs.Math.Seq.{take-suc}
+use Rattle.std.proofs.Math.Nat.{mul-suc}
+use Rattle.std.proofs.Math.Seq.{take-suc, take-append_seam}
 use Rattle.std.proofs.lemmas.Grind.{flat_map-append}
-use Rattle.std.proofs.Math.Seq.{take-append_seam}
 use Rattle.std.proofs.lemmas.List.{length-take-le}
+use Rattle.std.proofs.lemmas.List.Concat.{flat_map-cons}
+use Rattle.std.proofs.lemmas.List.Folds.{length-flat_map-take}
 use Rattle.std.proofs.lemmas.Slice.{drop-append-drop}
 use Rattle.gd_base.specs.declared.event.Reply.{Reply}
-use Rattle.gd_base.specs.Payload.{eight, kept_bytes, head_bytes, filled, payload_of}
+use Rattle.gd_base.specs.declared.layout.TheConstants.{HEAD_LEN, COUNT_AT, BALANCE_AT, TOTALS_AT, HANDPAY_AT, KEPT_AT, KEPT_LEN}
+use Rattle.gd_base.specs.declared.play.Handpay.{Handpay}
+use Rattle.gd_base.specs.Payload.{eight, kept_bytes, handpay_bytes, head_bytes, filled}
 use Rattle.gd_base.specs.SoFar.{view_so_far}
 use Rattle.gd_top.specs.Books.{put_at}
-
-abbrev pub Kept : Type 0
-Kept = ℕ × Option Reply
 
 -- a second piece right behind a first one
 pub put_behind : (place n : ℕ) (xs ys bytes : List ℕ) → length xs ≡ n → place + n + length ys ≤ length bytes
@@ -29,49 +30,40 @@ put_behind place n xs ys bytes e fits =
     let behind : place + n + length ys ≡ place + length (xs ++ ys) = omega (arith, e, length-append xs ys) in
     (λ i. front i ++ ys ++ back i) ∙ (λ i. append_assoc (take place bytes) xs ys i ++ drop (behind i) bytes)
 
-twelve : (kept : List Kept) → length (flat_map kept_bytes kept) ≡ 12 * length kept
-twelve [] = refl
-twelve (k ∷ kept) = omega (arith, twelve kept)
+-- ================ pieces of one length
 
--- what is kept of one device more
-pub kept_more : (i : ℕ) (kept : List Kept) (d : Kept) (bytes : List ℕ) → i < length kept → length kept ≡ 9 → length bytes ≡ 512
-    → put_at (208 + 12 * i) (kept_bytes (get_or kept i d)) (put_at 208 (flat_map kept_bytes (take i kept)) bytes) ≡ put_at 208 (flat_map kept_bytes (take (i + 1) kept)) bytes
-kept_more i kept d bytes lt nine len =
-    let x = get_or kept i d in
-    let before = flat_map kept_bytes (take i kept) in
-    let few : length before ≡ 12 * i = twelve (take i kept) ∙ ap (λ (k : ℕ). 12 * k) (length-take-le i kept (omega (arith, lt))) in
-    let one : take (i + 1) kept ≡ take i kept ++ x ∷ [] = rw add-one (take-suc kept i d lt) in
-    let more : flat_map kept_bytes (take (i + 1) kept) ≡ before ++ kept_bytes x = ap (flat_map kept_bytes) one ∙ flat_map-append kept_bytes (take i kept) (x ∷ []) in
-    put_behind 208 (12 * i) before (kept_bytes x) bytes few (omega (arith, lt, nine, len)) ∙ ap (λ (u : List ℕ). put_at 208 u bytes) (sym more)
+pub row_length : {A : Type 0} (f : A → List ℕ) (size : ℕ) → ((x : A) → length (f x) ≡ size) → (xs : List A) → length (flat_map f xs) ≡ size * length xs
+row_length f size long [] = omega arith
+row_length f size long (x ∷ xs) =
+    let one : length (flat_map f (x ∷ xs)) ≡ length (f x) + length (flat_map f xs) = ap length (flat_map-cons f x xs) ∙ length-append (f x) (flat_map f xs) in
+    omega (arith, one, long x, row_length f size long xs, mul-suc size (length xs))
 
-pub head_written : (count balance bill_in power_ups : ℕ) (kept : List Kept) → length kept ≡ 9
-    → put_at 208 (flat_map kept_bytes kept) (put_at 136 (eight power_ups) (put_at 48 (eight bill_in) (put_at 40 (eight balance) (put_at 32 (eight count) (replicate 512 0)))))
-    ≡ filled 512 (head_bytes (view_so_far count balance bill_in power_ups kept))
-head_written count balance bill_in power_ups (a ∷ b ∷ c ∷ d ∷ e ∷ f ∷ g ∷ h ∷ i ∷ []) len = refl
-head_written count balance bill_in power_ups _ len = absurd (omega (arith, len))
+-- one piece more
+pub row_more : {A : Type 0} (f : A → List ℕ) (size : ℕ) → ((x : A) → length (f x) ≡ size) → (place i : ℕ) (xs : List A) (d : A) (bytes : List ℕ) → i < length xs
+    → place + size * length xs ≤ length bytes
+    → put_at (place + size * i) (f (get_or xs i d)) (put_at place (flat_map f (take i xs)) bytes) ≡ put_at place (flat_map f (take (i + 1) xs)) bytes
+row_more {A} f size long place i xs d bytes lt fits =
+    let x = get_or xs i d in
+    let before = flat_map f (take i xs) in
+    let few : length before ≡ size * i = row_length f size long (take i xs) ∙ ap (λ (k : ℕ). size * k) (length-take-le i xs (omega (arith, lt))) in
+    let room : place + size * i + length (f x) ≤ length bytes = omega (arith, fits, few, row_length f size long xs, length-flat_map-take f xs i d lt) in
+    let one : take (i + 1) xs ≡ take i xs ++ x ∷ [] = rw add-one (take-suc xs i d lt) in
+    let more : flat_map f (take (i + 1) xs) ≡ before ++ f x = ap (flat_map f) one ∙ flat_map-append f (take i xs) (x ∷ []) ∙ (λ j. before ++ append-nil (f x) j) in
+    put_behind place (size * i) before (f x) bytes few room ∙ ap (λ (u : List ℕ). put_at place u bytes) (sym more)
 
-regroup : (h a b c d e : List ℕ) → h ++ (a ++ (b ++ (c ++ (d ++ e)))) ≡ h ++ a ++ b ++ c ++ d ++ e
-regroup h a b c d e = sym (simp append_assoc)
+pub eight_long : (n : ℕ) → length (eight n) ≡ 8
+eight_long n = refl
 
-zeros_behind : drop 512 (replicate {A = ℕ} 16384 0) ≡ filled 3584 [] ++ (filled 1860 [] ++ (filled 1700 [] ++ (filled 60 [] ++ filled 8668 [])))
-zeros_behind = refl
+pub kept_long : (k : ℕ × Option Reply) → length (kept_bytes k) ≡ KEPT_LEN
+kept_long k = refl
 
-with_zeros : (head : List ℕ) → head ++ drop 512 (replicate 16384 0) ≡ head ++ filled 3584 [] ++ filled 1860 [] ++ filled 1700 [] ++ filled 60 [] ++ filled 8668 []
-with_zeros head = ap (λ (u : List ℕ). head ++ u) zeros_behind ∙ regroup head (filled 3584 []) (filled 1860 []) (filled 1700 []) (filled 60 []) (filled 8668 [])
+-- ================ the head
 
--- the first page with zeros behind it is the payload
-pub rest_written : (count balance bill_in power_ups : ℕ) (kept : List Kept)
-    → filled 512 (head_bytes (view_so_far count balance bill_in power_ups kept)) ++ drop 512 (replicate 16384 0)
-    ≡ payload_of (view_so_far count balance bill_in power_ups kept)
-rest_written count balance bill_in power_ups kept = with_zeros (filled 512 (head_bytes (view_so_far count balance bill_in power_ups kept)))
-
-none_more : (n : ℕ) → n + 0 ≡ n
-none_more n = omega arith
-
-pub put_none : (place : ℕ) (bytes : List ℕ) → put_at place [] bytes ≡ bytes
-put_none place bytes =
-    (λ i. append-nil (take place bytes) i ++ drop (none_more place i) bytes) ∙ take-append-drop place bytes
-
-pub all_kept : (kept : List Kept) → length kept ≡ 9 → take 9 kept ≡ kept
-all_kept (a ∷ b ∷ c ∷ d ∷ e ∷ f ∷ g ∷ h ∷ i ∷ []) len = refl
-all_kept _ len = absurd (omega (arith, len))
+pub head_written : (count balance : ℕ) (totals : List ℕ) (handpay : Option Handpay) (kept : List (ℕ × Option Reply)) → length totals ≡ 16 → length kept ≡ 9
+    → put_at KEPT_AT (flat_map kept_bytes kept) (put_at HANDPAY_AT (handpay_bytes handpay) (put_at TOTALS_AT (flat_map eight totals)
+    (put_at BALANCE_AT (eight balance) (put_at COUNT_AT (eight count) (replicate HEAD_LEN 0)))))
+    ≡ filled HEAD_LEN (head_bytes (view_so_far count balance totals None handpay kept))
+head_written count balance (t0 ∷ t1 ∷ t2 ∷ t3 ∷ t4 ∷ t5 ∷ t6 ∷ t7 ∷ t8 ∷ t9 ∷ ta ∷ tb ∷ tc ∷ td ∷ te ∷ tf ∷ []) None (a ∷ b ∷ c ∷ d ∷ e ∷ f ∷ g ∷ h ∷ i ∷ []) l m = refl
+head_written count balance (t0 ∷ t1 ∷ t2 ∷ t3 ∷ t4 ∷ t5 ∷ t6 ∷ t7 ∷ t8 ∷ t9 ∷ ta ∷ tb ∷ tc ∷ td ∷ te ∷ tf ∷ []) (Some p) (a ∷ b ∷ c ∷ d ∷ e ∷ f ∷ g ∷ h ∷ i ∷ []) l m = refl
+head_written count balance totals handpay (a ∷ b ∷ c ∷ d ∷ e ∷ f ∷ g ∷ h ∷ i ∷ []) l m = absurd (omega (arith, l))
+head_written count balance totals handpay kept l m = absurd (omega (arith, m))

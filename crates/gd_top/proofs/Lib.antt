@@ -1,14 +1,18 @@
 mod Head
+mod OpenPlay
 pub mod Images
 pub mod MadeMemory
 pub mod PowerLines
-mod OneEntry
-mod Spelling
 pub mod Joins
 pub mod Equations
 pub mod Legal
 pub mod Reading
 pub mod Pieces
+pub mod Plays
+mod Kept
+mod Spelling
+mod Wholes
+mod Loaded
 pub mod Scripts
 pub mod Carried
 pub mod Events
@@ -20,3 +24,5 @@ pub mod Ends
 pub mod WholeRun
 mod Examples
 mod Rows
+mod Checked
+mod PlayLines

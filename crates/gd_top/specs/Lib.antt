@@ -3,12 +3,14 @@ pub mod State
 pub mod Lines
 pub mod Offers
 pub mod Openings
+pub mod Histories
 pub mod Items
 pub mod Life
 pub mod Legal
 pub mod Toy
 pub mod Starts
 pub mod Carrying
+pub mod Core
 pub mod Words
 pub mod Answered
 pub mod Running
@@ -18,4 +20,4 @@ pub mod Script
 pub mod Reads
 pub mod Trial
 pub mod Statuses
-pub mod Reels
+pub mod Checks

@@ -5,16 +5,26 @@ use Rattle.gd_base.specs.declared.step.Numbered.{Numbered}
 use Rattle.gd_base.specs.declared.step.What.{What}
 use Rattle.gd_base.specs.Entry.{device_of}
 use Rattle.gd_base.specs.Machine.{Machine}
+use Rattle.gd_base.specs.SoFar.{is_reels}
 use Rattle.gd_script.specs.declared.item.Item.{Item}
 use Rattle.gd_top.specs.declared.step.Step.{Step}
 use Rattle.gd_top.specs.Carrying.{Standing}
 
+-- the events of a script's lines: a bill, a play of the reels, its pick and its taking
+abbrev pub is_served_event : Event → Bool
+is_served_event (Event.Bill value) = true
+is_served_event (Event.Play game bet) = is_reels game
+is_served_event (Event.Pick door) = true
+is_served_event Event.Take = true
+is_served_event _ = false
+
 -- a line that says another item is a script fault until that item is built
 abbrev pub is_served : Item → Bool
-is_served (Item.Event (Event.Bill value)) = true
+is_served (Item.Event event) = is_served_event event
 is_served Item.Off = true
 is_served Item.On = true
 is_served (Item.Show What.Meters) = true
+is_served (Item.Show What.State) = true
 is_served Item.Skip = true
 is_served _ = false
 

@@ -6,7 +6,7 @@ ghost use Rattle.gd_top.specs.Carrying.{outside, standing, CarriesBy};
 ghost use Rattle.gd_top.specs.Items.{item_told, line_told};
 ghost use Rattle.gd_top.specs.Running.{IsClosed, IsOpen, Leaves, Stands, Wrote};
 ghost use Rattle.gd_top.specs.Script.{line_of};
-ghost use Rattle.gd_top.specs.Served.{is_served, after_line, next_of};
+ghost use Rattle.gd_top.specs.Served.{is_served, is_served_event, after_line, next_of};
 ghost use Rattle.gd_top.specs.Starts.{KeepsShown};
 ghost use Rattle.gd_top.specs.State.{On as PowerOn, Off as PowerOff};
 ghost use Rattle.gd_top.specs.Words.{memory_core, memory_disk, memory_draws, memory_lap, memory_phase, memory_stopped};
@@ -18,19 +18,30 @@ use crate::memory::Memory;
 use crate::powering::{turn_off, turn_on};
 use crate::run::{Carried, Run};
 use crate::step::Step;
-use gd_base::{Core, Draws, Event, Numbered, Sink, Text, What};
+use gd_base::{Core, Draws, Event, Game, Numbered, Sink, Text, What};
 use gd_cabinet::{Cabinet, Parts};
 use gd_disk::LabDisk;
 use gd_script::{Item, read_line};
+
+/// Whether the line of an event is built.
+fn is_served_event(event: &Event) -> bool
+    ensures { result ≡ is_served_event event.now }
+{
+    match event {
+        Event::Bill { .. } | Event::Pick { .. } | Event::Take => true,
+        Event::Play { game, .. } => *game == Game::Reels,
+        _ => false,
+    }
+}
 
 /// Whether an item is built.
 fn is_served(item: &Item) -> bool
     ensures { result ≡ is_served item.now }
 {
     match item {
-        Item::Event(Event::Bill { .. }) => true,
+        Item::Event(event) => is_served_event(event),
         Item::Off | Item::On | Item::Skip => true,
-        Item::Show(What::Meters) => true,
+        Item::Show(What::Meters | What::State) => true,
         _ => false,
     }
 }

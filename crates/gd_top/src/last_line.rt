@@ -3,13 +3,13 @@
 ghost use Rattle.std.specs.Prelude.{◌≡◌, ◌≤◌, ◌⊎◌, ℕ, []};
 ghost use Rattle.gd_base.specs.Causes.{Rose};
 ghost use Rattle.gd_base.specs.SoFar.{machine_so_far};
-ghost use Rattle.gd_top.specs.Books.{view_of};
+ghost use Rattle.gd_top.specs.Core.{core_view};
 ghost use Rattle.gd_top.specs.Carrying.{standing};
 ghost use Rattle.gd_top.specs.Life.{end_line, end_status};
 ghost use Rattle.gd_top.specs.Trial.{last_text, status_after, GivesLast, IsOfTrial};
 ghost use Rattle.gd_top.specs.Words.{memory_core, memory_phase};
 
-use crate::bill_core::BillCore;
+use crate::first_core::FirstCore;
 use crate::lines::MOST_LINES;
 use crate::lines_end::{LinesEnd, LinesEnded};
 use crate::memory::Memory;
@@ -19,9 +19,9 @@ use gd_base::{Draws, Sink, Text};
 use gd_disk::LabDisk;
 
 /// Appends the last line of a report whose input was read to its end.
-fn push_last<L: LabDisk, W: Draws>(text: &mut Text, memory: &Memory<BillCore, L, W>)
+fn push_last<L: LabDisk, W: Draws>(text: &mut Text, memory: &Memory<FirstCore, L, W>)
     requires { text.old.bytes ≡ [] }
-    ensures bytes { text.new.bytes ≡ end_line (machine_so_far (memory_core memory.now).setup) (memory_phase memory.now) (view_of (memory_core memory.now).books) }
+    ensures bytes { text.new.bytes ≡ end_line (machine_so_far (memory_core memory.now).setup) (memory_phase memory.now) (core_view (memory_core memory.now)) }
     ensures done { end_status (memory_phase memory.now) ≡ Status.Done }
 {
     match memory {
@@ -36,13 +36,13 @@ fn push_last<L: LabDisk, W: Draws>(text: &mut Text, memory: &Memory<BillCore, L,
 /// Writes the last line over what stands in `text`, and answers its status. At a write fault the line is empty.
 pub(crate) fn write_last<L: LabDisk, W: Draws>(
     text: &mut Text,
-    ended: &LinesEnded<BillCore, L, W>,
+    ended: &LinesEnded<FirstCore, L, W>,
 ) -> Status
     requires { ended.now.lines ≤ MOST_LINES }
     ensures status { result ≡ status_after ended.now.end (memory_phase ended.now.run.memory) }
     ensures of_trial { IsOfTrial result }
     ensures bytes { (power_ons : ℕ) → text.new.bytes ≡ last_text (machine_so_far (memory_core ended.now.run.memory).setup) ended.now.end
-        (standing (view_of (memory_core ended.now.run.memory).books) (memory_phase ended.now.run.memory) ended.now.lines power_ons) }
+        (standing (core_view (memory_core ended.now.run.memory)) (memory_phase ended.now.run.memory) ended.now.lines power_ons) }
 {
     text.clear();
     match ended.end {

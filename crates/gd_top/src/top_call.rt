@@ -5,14 +5,12 @@ ghost use Rattle.std.specs.Io.KnownBytes.{Appends};
 ghost use Rattle.gd_base.specs.BuiltIn.{built_in_setup};
 ghost use Rattle.gd_base.specs.Causes.{Rose};
 ghost use Rattle.gd_base.specs.SoFar.{machine_so_far};
-ghost use Rattle.gd_top.specs.Books.{view_of};
 ghost use Rattle.gd_top.specs.Starts.{IsShown};
 ghost use Rattle.gd_top.specs.Trial.{is_trial, no_memory_text, usage_text, GivesLast, WroteBroken, WroteFront, WroteReport, WroteToFault, WroteFrontOf, CabinetDone, IsBuilt, IsUnopened, told_status};
 
-use crate::bill_core::BillCore;
-use crate::books::Books;
 use crate::built_in::built_in;
 use crate::ended::{Ended, Falls};
+use crate::first_core::FirstCore;
 use crate::last_line::give_last;
 use crate::status::Status;
 use crate::trial::carry;
@@ -21,23 +19,6 @@ use gd_cabinet::Parts;
 use gd_disk::{DISK_LEN, Disk, LabDisk};
 use gd_store::Room;
 use std::alloc::Global;
-
-/// A core of the empty history, under the built-in setup.
-fn empty_core() -> BillCore
-    ensures setup { result.setup ≡ built_in_setup }
-    ensures empty { view_of result.books ≡ (machine_so_far result.setup).empty }
-{
-    BillCore {
-        setup: built_in(),
-        books: Books {
-            count: 0,
-            balance: 0,
-            bill_in: 0,
-            power_ups: 0,
-            kept: [(0, None); 9],
-        },
-    }
-}
 
 /// Whether the words are exactly `trial`.
 fn are_trial(words: &[&str]) -> bool
@@ -109,7 +90,7 @@ fn command<S: Source, K: Sink, L: LabDisk, D: Disk, W: Draws>(
     match Room::new(alloc) {
         Ok(room) => {
             let parts = Parts {
-                core: empty_core(),
+                core: FirstCore::new(built_in()),
                 disk: lab,
                 draws,
                 room,

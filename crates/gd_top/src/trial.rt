@@ -3,7 +3,7 @@
 ghost use Rattle.std.specs.Prelude.{◌≡◌, ◌≤◌, ◌⊎◌, true, [], ℕ, IfSome, codes, All};
 ghost use Rattle.gd_base.specs.Causes.{Rose};
 ghost use Rattle.gd_base.specs.SoFar.{machine_so_far};
-ghost use Rattle.gd_top.specs.Books.{view_of};
+ghost use Rattle.gd_top.specs.Core.{core_view};
 ghost use Rattle.gd_top.specs.Carrying.{outside, standing};
 ghost use Rattle.gd_top.specs.LinesDone.{RunEnded, step_of};
 ghost use Rattle.gd_top.specs.Running.{IsClosed, Leaves, Stands, Wrote};
@@ -11,8 +11,8 @@ ghost use Rattle.gd_top.specs.Starts.{IsShown, KeepsShown};
 ghost use Rattle.gd_top.specs.Trial.{first_standing, last_text, status_after, GivesLast, HasCauses, IsLeft, IsOfTrial, RunDone};
 ghost use Rattle.gd_top.specs.Words.{memory_core, memory_disk, memory_draws, memory_lap, memory_phase, memory_stopped};
 
-use crate::bill_core::BillCore;
 use crate::ended::Falls;
+use crate::first_core::FirstCore;
 use crate::last_line::{give_last, write_last};
 use crate::lines::MOST_LINES;
 use crate::lines_end::{LinesEnd, LinesEnded};
@@ -88,19 +88,19 @@ fn closed<C: Core, L: LabDisk, W: Draws>(memory: Memory<C, L, W>) -> Parts<C, L,
 
 /// Gives the last line, and closes the memory. No cut came.
 fn finish<K: Sink, L: LabDisk, W: Draws>(
-    ended: LinesEnded<BillCore, L, W>,
+    ended: LinesEnded<FirstCore, L, W>,
     output: &mut K,
     text: &mut Text,
 ) -> TrialEnded<L, W>
     requires few { ended.lines ≤ MOST_LINES }
     ensures last { (power_ons : ℕ) → GivesLast (status_after ended.end (memory_phase ended.run.memory)) result.status (K.taken output.old) (K.taken output.new)
         (last_text (machine_so_far (memory_core ended.run.memory).setup) ended.end
-        (standing (view_of (memory_core ended.run.memory).books) (memory_phase ended.run.memory) ended.lines power_ons)) }
+        (standing (core_view (memory_core ended.run.memory)) (memory_phase ended.run.memory) ended.lines power_ons)) }
     ensures lab { result.lab ≡ memory_disk ended.run.memory }
     ensures draws { result.draws ≡ memory_draws ended.run.memory }
-    ensures left { Stands (machine_so_far (memory_core ended.run.memory).setup) (view_of (memory_core ended.run.memory).books) (memory_phase ended.run.memory)
+    ensures left { Stands (machine_so_far (memory_core ended.run.memory).setup) (core_view (memory_core ended.run.memory)) (memory_phase ended.run.memory)
         (L.state (memory_disk ended.run.memory)) (memory_stopped ended.run.memory) (memory_lap ended.run.memory)
-        → IsLeft (machine_so_far (memory_core ended.run.memory).setup) (view_of (memory_core ended.run.memory).books) (memory_phase ended.run.memory) (L.state result.lab) }
+        → IsLeft (machine_so_far (memory_core ended.run.memory).setup) (core_view (memory_core ended.run.memory)) (memory_phase ended.run.memory) (L.state result.lab) }
     ensures falls { result.falls.items ≡ [] }
     ensures of_trial { IsOfTrial result.status }
     ensures cause { (result.status ≡ status_after ended.end (memory_phase ended.run.memory)) ⊎ ((result.status ≡ Status.WriteFault) × Rose (K.faults output.old) (K.faults output.new)) }
@@ -119,7 +119,7 @@ fn finish<K: Sink, L: LabDisk, W: Draws>(
 
 /// Ends a trial whose memory could not be made.
 fn end_unmade<K: Sink, L, W>(
-    parts: Parts<BillCore, L, W>,
+    parts: Parts<FirstCore, L, W>,
     output: &mut K,
     text: &mut Text,
 ) -> TrialEnded<L, W>
@@ -141,11 +141,11 @@ fn end_unmade<K: Sink, L, W>(
 
 /// Makes an empty memory on the laboratory, turns it off and on, opens it, and carries out the script of the input.
 pub(crate) fn carry<S: Source, K: Sink, L: LabDisk, W: Draws>(
-    parts: Parts<BillCore, L, W>,
+    parts: Parts<FirstCore, L, W>,
     input: &mut S,
     output: &mut K,
 ) -> TrialEnded<L, W>
-    requires empty { view_of parts.core.books ≡ (machine_so_far parts.core.setup).empty }
+    requires empty { core_view parts.core ≡ (machine_so_far parts.core.setup).empty }
     requires size { (L.state parts.disk).size ≡ DISK_LEN }
     requires is_on { (L.state parts.disk).is_on ≡ true }
     requires armed { (L.state parts.disk).armed ≡ [] }

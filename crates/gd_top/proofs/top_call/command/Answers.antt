@@ -1,4 +1,4 @@
-use Rattle.std.proofs.Common.{◌≡◌, sym, subst, arith, Bool, true, All}
+use Rattle.std.proofs.Common.{◌≡◌, ◌∙◌, sym, subst, arith, Bool, true, All}
 use Rattle.gd_base.specs.BuiltIn.{built_in_setup}
 use Rattle.gd_base.specs.SoFar.{machine_so_far}
 use Rattle.gd_base.specs.declared.setup.Setup.{Setup}
@@ -19,8 +19,8 @@ returns-in-Ok-clause-done g c =
     let disk = g.L.Disk.state run.result.lab in
     let yes : is_trial c.args.words.now ≡ true = grind (arith, c.are_trial.ensures, c.if-not-are_trial.false) in
     subst (λ (b : Bool). CabinetDone (machine_so_far built_in_setup) B b status left rest taken gave disk) (sym yes)
-    (subst (λ (s : Setup). CabinetDone (machine_so_far s) B true status left rest taken gave disk) c.empty_core.ensures.setup
-    (carried_done (machine_so_far c.empty_core.result.setup) B status left rest taken gave disk run.ensures.of_trial run.ensures.done))
+    (subst (λ (s : Setup). CabinetDone (machine_so_far s) B true status left rest taken gave disk) (c.new-in-Ok.ensures.setup ∙ c.built_in.ensures)
+    (carried_done (machine_so_far c.new-in-Ok.result.setup) B status left rest taken gave disk run.ensures.of_trial run.ensures.done))
 
 pub returns-in-Ok-clause-exact : goal.returns-in-Ok-clause-exact
 returns-in-Ok-clause-exact g c =
@@ -33,4 +33,4 @@ returns-in-Ok-clause-exact g c =
 pub returns-in-Ok-clause-shown : goal.returns-in-Ok-clause-shown
 returns-in-Ok-clause-shown g c =
     let run = c.carry-trial in
-    subst (λ (s : Setup). All (IsShown (machine_so_far s)) (g.L.Disk.state run.result.lab).found) c.empty_core.ensures.setup run.ensures.shown
+    subst (λ (s : Setup). All (IsShown (machine_so_far s)) (g.L.Disk.state run.result.lab).found) (c.new-in-Ok.ensures.setup ∙ c.built_in.ensures) run.ensures.shown

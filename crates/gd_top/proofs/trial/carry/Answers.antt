@@ -1,7 +1,7 @@
 use Rattle.std.proofs.Common.{◌≡◌, ◌∙◌, ap, sym, subst, List, ℕ, [], All}
 use Rattle.gd_base.specs.Causes.{Rose}
 use Rattle.gd_base.specs.SoFar.{machine_so_far}
-use Rattle.gd_top.specs.Books.{view_of}
+use Rattle.gd_top.specs.Core.{core_view}
 use Rattle.gd_top.specs.Carrying.{outside, standing}
 use Rattle.gd_top.specs.LinesDone.{RunEnded, step_of}
 use Rattle.gd_top.specs.Running.{Stands}
@@ -23,7 +23,7 @@ returns-in-Ok-clause-done g c =
     let core = memory_core memory in
     let M = machine_so_far parts.core.setup in
     let B = g.W.Draws.block_of parts.draws in
-    let v = view_of core.books in
+    let v = core_view core in
     let phase = memory_phase memory in
     let stands = standing v phase ended.lines ended.run.power_ons in
     let left = g.S.Source.left c.args.input.now in

@@ -1,0 +1,16 @@
+use Rattle.std.proofs.Common.{arith}
+use Rattle.gd_base.proofs.SoFarRules.{counts_at}
+use Rattle.gd_play.specs.Words.{machine_phase, machine_play, machine_table}
+use Rattle.gd_top.proofs.Plays.{kept_by_fit}
+use Rattle.gd_top.proofs.first_core.calls.FirstCoreCore.draw_index.Goals as goal
+
+pub overflow_add-result : goal.overflow_add-result
+overflow_add-result c =
+    let core = c.args.self.now in
+    let b = core.books in
+    let k = kept_by_fit core.setup b (machine_table core.plays) (machine_play core.plays) (machine_phase core.plays) core.fit in
+    let room = k.room in
+    let t = counts_at b.count b.totals k.sums.sixteen k.sums.counts in
+    let plays = t.0 in
+    let starts = t.2 in
+    omega (arith, plays, starts, room)

@@ -1,0 +1,14 @@
+use Rattle.std.proofs.Common.{◌&&◌, ◌^◌, nat_lt}
+use Rattle.gd_base.specs.declared.event.Game.{Game}
+use Rattle.gd_base.proofs.Rules.{both}
+use Rattle.gd_base.specs.Stage.{is_choice, could_turn}
+use Rattle.gd_play.proofs.Turns.{at_most_five}
+use Rattle.gd_top.proofs.first_core.reels_table.reels_stage.Goals as goal
+
+pub win_after-win-requires-clause-turns : goal.win_after-win-requires-clause-turns
+win_after-win-requires-clause-turns c =
+    let setup = c.args.setup.now in
+    let words = c.args.words.now in
+    let cs = c.args.choices.now in
+    let could = both (is_choice setup Game.Reels words cs.choice && nat_lt cs.colours (2 ^ cs.turns)) (could_turn setup Game.Reels c.args.bet words cs cs.turns) c.requires.choices in
+    at_most_five setup Game.Reels c.args.bet words cs cs.turns could.1

@@ -1,8 +1,0 @@
-use Rattle.std.proofs.Common.{◌≡◌, take}
-use Rattle.std.specs.List.{flat_map}
-use Rattle.gd_base.specs.Payload.{kept_bytes}
-use Rattle.gd_top.specs.Books.{put_at}
-use Rattle.gd_top.proofs.payload_writing.write_kept.Given as goal
-
-abbrev pub invariant-loop-i : goal.invariant-loop-i
-invariant-loop-i l = l.head ≡ put_at 208 (flat_map kept_bytes (take l.i l.kept)) l.fn.head

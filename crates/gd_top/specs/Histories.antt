@@ -1,0 +1,22 @@
+-- What each legal history of what is built keeps.
+use Rattle.std.specs.Prelude.{◌≡◌, ℕ, ◌^◌, nat_lt, IsTrue, List, length}
+use Rattle.std.specs.List.{list_all}
+use Rattle.gd_base.specs.declared.setup.Setup.{Setup}
+use Rattle.gd_base.specs.Entry.{Entry}
+use Rattle.gd_base.specs.Legal.{IsLegal, view_over}
+use Rattle.gd_base.specs.Machine.{Blocks}
+use Rattle.gd_base.specs.SoFar.{machine_so_far, is_whole_so_far}
+
+-- sixteen words of 64 bits
+abbrev pub IsBlock : List ℕ → Type 0
+IsBlock words = (length words ≡ 16) × IsTrue (list_all (λ w. nat_lt w (2 ^ 64)) words)
+
+abbrev pub AreBlocks : Blocks → Type 0
+AreBlocks blocks = (lap index : ℕ) → IsBlock (blocks lap index)
+
+-- The view of each legal history from nothing keeps all rules of a view: no money is lost or made, no number is too wide
+-- for its place, and the open play is one that its words and choices allow. So a payload spells it.
+abbrev pub KeepsAllRules : Setup → Type 0
+KeepsAllRules setup =
+    (blocks : Blocks) (lap : ℕ) (past : List Entry) → AreBlocks blocks → IsLegal (machine_so_far setup) blocks lap (machine_so_far setup).empty past
+    → IsTrue (is_whole_so_far setup (view_over (machine_so_far setup) (machine_so_far setup).empty past))

@@ -1,0 +1,40 @@
+//! The first core: a history of bills, plays of the reels, and starts.
+
+mod acting;
+mod balancing;
+mod books;
+mod calls;
+mod checking;
+mod counting;
+mod gambling;
+mod judging;
+mod open_play;
+mod payload_reading;
+mod payload_writing;
+mod play_lines;
+#[cfg(test)]
+mod play_tests;
+mod recording;
+mod reels_table;
+mod settling;
+mod showing;
+#[cfg(test)]
+mod tests;
+
+ghost use Rattle.std.specs.Prelude.{◌≡◌};
+ghost use Rattle.gd_play.specs.Words.{machine_phase, machine_play, machine_table};
+ghost use Rattle.gd_top.specs.Books.{AreFit};
+
+use self::books::Books;
+use self::reels_table::ReelsTable;
+use gd_base::Setup;
+use gd_play::PlayMachine;
+
+/// A core that serves bills, plays of the reels, and starts. It stands here until the machine is built.
+#[derive(Drop)]
+pub(crate) struct FirstCore {
+    pub(crate) setup: Setup,
+    pub(crate) books: Books,
+    pub(crate) plays: PlayMachine<ReelsTable>,
+    ghost fit: { AreFit setup books (machine_table plays) (machine_play plays) (machine_phase plays) },
+}

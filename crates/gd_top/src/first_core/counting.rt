@@ -1,0 +1,54 @@
+//! Whether numbers that were read add up to the entries.
+
+ghost use Rattle.std.specs.Prelude.{◌≡◌, ◌+◌, ◌==◌, drop, nat_le, sum_by};
+ghost use Rattle.std.specs.List.{list_all};
+ghost use Rattle.gd_base.specs.Spelling.{is_flagged_last};
+ghost use Rattle.gd_top.specs.Checks.{are_counts};
+
+use super::books::Books;
+use gd_base::{MOST_ENTRIES, Reply};
+
+/// Whether the last numbers add up to the count.
+fn add_up(kept: &[(u64, Option<Reply>); 9], count: u64) -> bool
+    ensures { result ≡ (sum_by (λ k. k.0) kept.now == count) }
+{
+    let mut left = count;
+    for k in kept {
+        if k.0 > left {
+            return false;
+        }
+        left -= k.0;
+    }
+    left == 0
+}
+
+/// Whether each last number but 0 has a reply.
+fn are_flagged(kept: &[(u64, Option<Reply>); 9]) -> bool
+    ensures { result ≡ list_all is_flagged_last kept.now }
+{
+    kept.iter().all(|k| (k.0 == 0) == k.1.is_none())
+}
+
+/// Whether no number is above this one.
+fn are_at_most(numbers: &[u64], most: u64) -> bool
+    ensures { result ≡ list_all (λ n. nat_le n most) numbers.now }
+{
+    numbers.iter().all(|n| *n <= most)
+}
+
+/// Whether no total that is a number of entries is above them.
+fn are_within(totals: &[u64; 16], count: u64) -> bool
+    ensures { result ≡ list_all (λ n. nat_le n count) (drop 9 totals.now) }
+{
+    are_at_most(&totals[9..], count)
+}
+
+/// Whether the numbers of entries are in order.
+pub(crate) fn are_counted(books: &Books) -> bool
+    ensures { result ≡ are_counts books.now }
+{
+    books.count <= MOST_ENTRIES
+        && add_up(&books.kept, books.count)
+        && are_flagged(&books.kept)
+        && are_within(&books.totals, books.count)
+}
