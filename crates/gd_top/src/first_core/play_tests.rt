@@ -40,7 +40,7 @@ fn begun(words: Block, bet: u8) -> PlayRecord
 }
 
 // Three scatters, and the prizes turned by two.
-fn pick_words() -> Block {
+pub(crate) fn pick_words() -> Block {
     let mut words = [0; 16];
     words[0] = 0x3800_0000_0000_0000;
     words[2] = 0x6800_0000_0000_0000;

@@ -1,20 +1,12 @@
 // The first core through the bound of a core: plays to their end, wins that are held, repeats and steps, payloads.
 use super::FirstCore;
+use super::play_tests::pick_words;
 use crate::built_in::built_in;
 use gd_base::{
     Block, Condition, Core, Device, Event, Game, HEAD_LEN, Loaded, Numbered, PAYLOAD_LEN, Refusal,
     Reply, Stepped, Text, What,
 };
 use std::process::Abort;
-
-// Three scatters, no line win, and the prizes turned by two: 20 credits for each credit of the bet behind door 3.
-fn pick_words() -> Block {
-    let mut words = [0; 16];
-    words[0] = 0x3800_0000_0000_0000;
-    words[2] = 0x6800_0000_0000_0000;
-    words[10] = 0x6666_6666_6666_6667;
-    words
-}
 
 // The answer to an event, on these words where it draws.
 fn offered<C: Core>(core: &mut C, number: u64, event: Event, words: Block) -> Stepped {
@@ -134,19 +126,20 @@ fn repeats_and_steps_of_each_device(rt: HostRuntime) {
     }
 }
 
-// A payload whose open play has another win, another wager or a turn of gamble spells no view.
+// A payload of another digest spells no view, nor one whose open play has another wager, a turn of gamble or another win.
 #[test]
-fn an_altered_play_is_unreadable(rt: HostRuntime) {
+fn an_altered_payload_is_unreadable(rt: HostRuntime) {
     let mut core = FirstCore::new(built_in());
     assert!(rt; taken(&mut core, 1, Event::Bill { value: 500 }));
     assert!(rt; taken(&mut core, 1, play(9)));
     let mut image = [0; PAYLOAD_LEN];
     core.write_image(&mut image);
-    for place in [149, 151, 161] {
+    for place in [31, HEAD_LEN + 150, HEAD_LEN + 152, HEAD_LEN + 162] {
         let mut altered = image;
-        altered[HEAD_LEN + 1 + place] ^= 1;
+        altered[place] ^= 1;
         assert_eq!(rt; core.load(&altered), Loaded::Unreadable);
         assert_eq!(rt; core.count(), 0);
     }
     assert_eq!(rt; core.load(&image), Loaded::Read);
+    assert_eq!(rt; core.count(), 2);
 }
