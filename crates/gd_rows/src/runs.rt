@@ -1,7 +1,7 @@
 // Runs of the program over what is in memory, and what they leave.
 ghost use Rattle.std.specs.Prelude.{◌≡◌, [], true};
 
-use gd_base::{Block, ListDraws, MemorySink, MemorySource, Source};
+use gd_base::{Draws, ListDraws, MemorySink, MemorySource, Source};
 use gd_disk::{DISK_LEN, LabDisk, MemoryDisk};
 use gd_store::{Booted, CopyState, Room, boot};
 use gd_top::{Status, cabinet};
@@ -30,17 +30,18 @@ pub(crate) fn trial<S: Source + Drop, L: LabDisk + Drop>(
     requires armed { (L.state lab).armed ≡ [] }
     requires found { (L.state lab).found ≡ [] }
 {
-    trial_with_blocks(alloc, words, script, room, lab, Vec::new(alloc))
+    let draws = ListDraws::of(Vec::new(alloc));
+    trial_with_draws(alloc, words, script, room, lab, draws)
 }
 
-// The same with these blocks, from index 0 on, and zeros past them.
-pub(crate) fn trial_with_blocks<S: Source + Drop, L: LabDisk + Drop>(
+// The same with the blocks of these draws.
+pub(crate) fn trial_with_draws<S: Source + Drop, L: LabDisk + Drop, W: Draws + Drop>(
     alloc: Global,
     words: &[&str],
     script: S,
     room: usize,
     lab: L,
-    blocks: Vec<Block>,
+    draws: W,
 ) -> Result<Run<L>, Fail>
     requires size { (L.state lab).size ≡ DISK_LEN }
     requires is_on { (L.state lab).is_on ≡ true }
@@ -51,7 +52,6 @@ pub(crate) fn trial_with_blocks<S: Source + Drop, L: LabDisk + Drop>(
     let mut setup = MemorySource::of(Vec::new(alloc), None);
     let mut output = MemorySink::with_room(alloc, room)?;
     let disk = MemoryDisk::of(vec![in alloc; 0; DISK_LEN as usize]?, None);
-    let draws = ListDraws::of(blocks);
     let ended = cabinet(
         alloc,
         words,

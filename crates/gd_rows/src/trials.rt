@@ -1,6 +1,6 @@
 // What no clause says: that a run with ample memory meets no want of it, and the reports as the formats have them.
-use crate::runs::{are_sound, script, trial, trial_with_blocks};
-use gd_base::{Block, MemorySource};
+use crate::runs::{are_sound, script, trial, trial_with_draws};
+use gd_base::{Block, ChaChaDraws, ListDraws, MemorySource};
 use gd_disk::{DISK_LEN, LabDisk, MemoryLab};
 use gd_top::Status;
 use std::alloc::Global;
@@ -54,13 +54,51 @@ fn kept_draw_shows_state(rt: HostRuntime) -> Result<(), Fail> {
         b"bill 500\nplay reels 9\noff\non\nshow state\npick 2\ntake\n",
     )?;
     let lab = MemoryLab::new(alloc, DISK_LEN)?;
-    let run = trial_with_blocks(alloc, &["trial"], lines, 1000, lab, blocks)?;
+    let run = trial_with_draws(alloc, &["trial"], lines, 1000, lab, ListDraws::of(blocks))?;
     assert_eq!(rt; run.status, Status::Done);
     assert_eq!(rt;
         run.output.bytes(),
         b"power 1: a sound 0, b sound 0\nstart at 1\nack bill 1 taken at 2\nack player 1 taken at 3\noff\npower 2: a sound 3, b sound 3\nstart at 4\ncredit 455\ncondition none\norder none\nhandpay none\nplay 1 block 1 reels bet 9 wager 45\nwindow SSSFC AFACF BEDEB\nstage pick win 0\nack player 2 taken at 5\nack player 3 taken at 6\nend at 6 credit 905\n".as_slice()
     );
     are_sound(&rt, alloc, run.lab, 6)
+}
+
+// A win that waits for the player stands through a power loss. The blocks are those of the seed 1: block 5 wins 10 credits,
+// and the start passes over block 6.
+#[test]
+fn win_of_a_seed_waits_over_a_power_loss(rt: HostRuntime) -> Result<(), Fail> {
+    let alloc = rt.alloc();
+    let lines = script(
+        alloc,
+        b"bill 500\nplay reels 1\nplay reels 1\nplay reels 1\nplay reels 1\nplay reels 1\noff\non\nshow state\ntake\nplay reels 1\n",
+    )?;
+    let lab = MemoryLab::new(alloc, DISK_LEN)?;
+    let run = trial_with_draws(alloc, &["trial"], lines, 1000, lab, ChaChaDraws::new(1))?;
+    assert_eq!(rt; run.status, Status::Done);
+    assert_eq!(rt;
+        run.output.bytes(),
+        b"power 1: a sound 0, b sound 0\nstart at 1\nack bill 1 taken at 2\nack player 1 taken at 3\nack player 2 taken at 4\nack player 3 taken at 5\nack player 4 taken at 6\nack player 5 taken at 7\noff\npower 2: a sound 7, b sound 7\nstart at 8\ncredit 475\ncondition none\norder none\nhandpay none\nplay 5 block 5 reels bet 1 wager 5\nwindow FEFDC DDWFF ESAEB\nstage gamble win 50\nack player 6 taken at 9\nack player 7 taken at 10\nend at 10 credit 520\n".as_slice()
+    );
+    are_sound(&rt, alloc, run.lab, 10)
+}
+
+// What the player's events are refused with. A refused play draws nothing, so the first that is taken has block 1.
+#[test]
+fn refusals_of_the_player(rt: HostRuntime) -> Result<(), Fail> {
+    let alloc = rt.alloc();
+    let blocks = vec![in alloc; [0; 16], three_scatters()]?;
+    let lines = script(
+        alloc,
+        b"play reels 1\nbill 500\npick 1\nplay reels 10\nplay reels 9\nplay reels 9\ntake\npick 2\npick 2\ntake\ntake\n",
+    )?;
+    let lab = MemoryLab::new(alloc, DISK_LEN)?;
+    let run = trial_with_draws(alloc, &["trial"], lines, 1000, lab, ListDraws::of(blocks))?;
+    assert_eq!(rt; run.status, Status::Done);
+    assert_eq!(rt;
+        run.output.bytes(),
+        b"power 1: a sound 0, b sound 0\nstart at 1\nack player 1 refused 6 no-credit at 2\nack bill 1 taken at 3\nack player 2 refused 8 no-play at 4\nack player 3 refused 5 bad-wager at 5\nack player 4 taken at 6\nack player 5 refused 7 play-open at 7\nack player 6 refused 9 bad-choice at 8\nack player 7 taken at 9\nack player 8 refused 9 bad-choice at 10\nack player 9 taken at 11\nack player 10 refused 8 no-play at 12\nend at 12 credit 905\n".as_slice()
+    );
+    are_sound(&rt, alloc, run.lab, 12)
 }
 
 #[test]
