@@ -19,18 +19,21 @@ use Rattle.gd_base.specs.Meters.{with_one}
 use Rattle.gd_base.specs.Recall.{play_record}
 use Rattle.gd_base.specs.Rounds.{Round, round_of, round_stage, choices_of, new_round, chosen, is_over}
 use Rattle.gd_base.specs.Rule.{rule, refusals, unless, is_at, is_bill}
-use Rattle.gd_base.specs.SoFar.{machine_so_far, rule_so_far, is_drawn_so_far, is_whole_so_far, view_so_far, with_reply}
+use Rattle.gd_base.specs.Payload.{payload_of}
+use Rattle.gd_base.specs.SoFar.{machine_so_far, rule_so_far, is_drawn_so_far, is_whole_so_far, view_so_far, with_reply, spelled_so_far}
+use Rattle.gd_base.specs.Spelled.{Shows}
 use Rattle.gd_base.specs.Stage.{stage, is_bet, are_choices}
 use Rattle.gd_base.specs.View.{View}
 use Rattle.gd_base.proofs.BooksLegal.{AreNone, told, not_held}
 use Rattle.gd_base.proofs.Rules.{both, at_most}
+use Rattle.gd_base.proofs.SoFar.{spelled_back}
 use Rattle.gd_base.proofs.SoFarRules.{IsCounted, IsKeptPlay, counted, whole_of, counts_at, counted_refused, counted_bill, counted_start, counted_open, counted_chosen, counted_ended, counted_ended_at_once, begun_kept, chosen_kept, bill_small}
 use Rattle.gd_base.proofs.SoFarSteps.{effect_refused, effect_bill, effect_start, effect_play, effect_pick, effect_take, view_moved, still_open}
 use Rattle.gd_base.proofs.Wins.{most_win}
 use Rattle.gd_play.proofs.Fresh.{first_asked}
 use Rattle.gd_top.specs.declared.first_core.books.Books.{Books}
 use Rattle.gd_top.specs.Books.{AreWords, view_of}
-use Rattle.gd_top.specs.Histories.{IsBlock, AreBlocks, KeepsAllRules}
+use Rattle.gd_top.specs.Histories.{IsSpelled, IsBlock, AreBlocks, KeepsAllRules}
 use Rattle.gd_top.proofs.Plays.{IsKept, of_round, play_taken, plain_play, stage_small, drawn}
 
 abbrev pub after_entry : Setup → View → ℕ → Event → Option (ℕ × List ℕ) → Reply → View
@@ -233,5 +236,14 @@ history_whole setup blocks lap [] are legal = none_whole setup
 history_whole setup blocks lap (e ∷ past) are legal =
     next_whole setup blocks lap (view_over (machine_so_far setup) (machine_so_far setup).empty past) e are (history_whole setup blocks lap past are legal.1) legal.0
 
+-- and its payload spells it
+spelled : (setup : Setup) (v : View) → IsWhole setup v → IsSpelled setup v
+spelled setup v whole =
+    let w = view_so_far v.count v.balance v.totals v.play v.handpay v.kept in
+    let now : is_whole_so_far setup w ≡ true = sym (ap (is_whole_so_far setup) whole.form) ∙ whole.keeps in
+    let back = spelled_back setup v.count v.balance v.totals v.play v.handpay v.kept now in
+    (whole.keeps, (λ x. spelled_so_far setup (payload_of (whole.form x))) ∙ back ∙ (λ x. Shows (sym whole.form x)))
+
 pub keeps_all_rules : (setup : Setup) → KeepsAllRules setup
-keeps_all_rules setup blocks lap past are legal = (history_whole setup blocks lap past are legal).keeps
+keeps_all_rules setup blocks lap past are legal =
+    spelled setup (view_over (machine_so_far setup) (machine_so_far setup).empty past) (history_whole setup blocks lap past are legal)

@@ -37,10 +37,6 @@ spelled_by (Some read) = Shows (view_of read.0 read.1)
 
 -- ================ what an event makes of the books
 
--- an amount more at a meter
-abbrev pub with_total : Meter → ℕ → Books → Books
-with_total m amount b = record b { totals = with_one m amount b.totals }
-
 -- the books after a bill of a value, by its reply
 abbrev pub with_bill : ℕ → Reply → Books → Books
 with_bill value Reply.Taken b = record b { balance = b.balance + value; totals = with_one Meter.BillIn value b.totals }

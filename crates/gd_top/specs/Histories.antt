@@ -5,7 +5,10 @@ use Rattle.gd_base.specs.declared.setup.Setup.{Setup}
 use Rattle.gd_base.specs.Entry.{Entry}
 use Rattle.gd_base.specs.Legal.{IsLegal, view_over}
 use Rattle.gd_base.specs.Machine.{Blocks}
-use Rattle.gd_base.specs.SoFar.{machine_so_far, is_whole_so_far}
+use Rattle.gd_base.specs.Payload.{payload_of}
+use Rattle.gd_base.specs.SoFar.{machine_so_far, is_whole_so_far, spelled_so_far}
+use Rattle.gd_base.specs.Spelled.{Shows}
+use Rattle.gd_base.specs.View.{View}
 
 -- sixteen words of 64 bits
 abbrev pub IsBlock : List ℕ → Type 0
@@ -14,9 +17,13 @@ IsBlock words = (length words ≡ 16) × IsTrue (list_all (λ w. nat_lt w (2 ^ 6
 abbrev pub AreBlocks : Blocks → Type 0
 AreBlocks blocks = (lap index : ℕ) → IsBlock (blocks lap index)
 
+-- a view that keeps all rules of a view, and that its payload spells
+abbrev pub IsSpelled : Setup → View → Type 0
+IsSpelled setup v = IsTrue (is_whole_so_far setup v) × (spelled_so_far setup (payload_of v) ≡ Shows v)
+
 -- The view of each legal history from nothing keeps all rules of a view: no money is lost or made, no number is too wide
--- for its place, and the open play is one that its words and choices allow. So a payload spells it.
+-- for its place, and the open play is one that its words and choices allow. Its payload spells it.
 abbrev pub KeepsAllRules : Setup → Type 0
 KeepsAllRules setup =
     (blocks : Blocks) (lap : ℕ) (past : List Entry) → AreBlocks blocks → IsLegal (machine_so_far setup) blocks lap (machine_so_far setup).empty past
-    → IsTrue (is_whole_so_far setup (view_over (machine_so_far setup) (machine_so_far setup).empty past))
+    → IsSpelled setup (view_over (machine_so_far setup) (machine_so_far setup).empty past)

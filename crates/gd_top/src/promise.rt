@@ -16,7 +16,7 @@ pub fn one_legal_history(setup: &Setup)
 }
 
 /// The view of each legal history from nothing keeps all rules of a view: no money is lost or made, no number is too wide
-/// for its place in a payload, and the open play is one that its words and choices allow.
+/// for its place in a payload, and the open play is one that its words and choices allow. Its payload spells it.
 pub fn all_rules_kept(setup: &Setup)
     ensures { KeepsAllRules setup.now }
 {
