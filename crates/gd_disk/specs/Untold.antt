@@ -24,6 +24,7 @@ file_state m = record {
   moment = 0;
   found_since = λ t c. ⊥;
   stops = m.stops;
+  reads = m.reads;
   syncs = m.syncs;
   armed = [];
   found = [];
@@ -37,5 +38,6 @@ file_state m = record {
 pub record HasDoneNothing (disk : DiskState) : Type 0 where
   pub seen : disk.seen ≡ None
   pub stops : disk.stops ≡ 0
+  pub reads : disk.reads ≡ 0
   pub syncs : disk.syncs ≡ 0
   pub faults : disk.faults ≡ 0

@@ -1,6 +1,6 @@
 // A disk over a file.
 ghost use Rattle.std.specs.Prelude.{◌≡◌, IsOk, IsErr, true, false};
-ghost use Rattle.gd_disk.specs.Disk.{Rose};
+ghost use Rattle.gd_disk.specs.Disk.{Rose, next_count};
 
 use crate::{DISK_LEN, Disk, Off};
 use std::fs::File;
@@ -17,6 +17,7 @@ pub struct FileDisk {
     is_on: bool,
     stops: u64,
     faults: u64,
+    reads: u64,
     syncs: u64,
 }
 
@@ -57,6 +58,7 @@ impl FileDisk {
             file,
             stops: 0,
             faults: 0,
+            reads: 0,
             syncs: 0,
         }
     }
@@ -64,8 +66,9 @@ impl FileDisk {
     // Whether the power is on. A call on a disk that is off is counted.
     fn serves(&mut self) -> bool
         ensures yes { result ≡ true → (self.old.is_on ≡ true) × (self.new ≡ self.old) }
-        ensures no { result ≡ false → (self.old.is_on ≡ false) × (self.new.is_on ≡ false) × Rose self.old.stops self.new.stops }
+        ensures no { result ≡ false → (self.old.is_on ≡ false) × (self.new.is_on ≡ false) × (self.new.stops ≡ next_count self.old.stops) }
         ensures faults { self.new.faults ≡ self.old.faults }
+        ensures reads { self.new.reads ≡ self.old.reads }
         ensures syncs { self.new.syncs ≡ self.old.syncs }
     {
         if self.is_on {
@@ -78,7 +81,8 @@ impl FileDisk {
     // What a call answers that the file did, or failed to do. A failure is counted, and the power goes off.
     fn answers(&mut self, is_done: bool) -> Result<(), Off>
         ensures yes { is_done ≡ true → IsOk result × (self.new ≡ self.old) }
-        ensures no { is_done ≡ false → IsErr result × (self.new.is_on ≡ false) × Rose self.old.stops self.new.stops × Rose self.old.faults self.new.faults }
+        ensures no { is_done ≡ false → IsErr result × (self.new.is_on ≡ false) × (self.new.stops ≡ next_count self.old.stops) × Rose self.old.faults self.new.faults }
+        ensures reads { self.new.reads ≡ self.old.reads }
         ensures syncs { self.new.syncs ≡ self.old.syncs }
     {
         if is_done {
@@ -112,7 +116,9 @@ impl Disk for FileDisk {
             Some(file) => file.read_exact_at(into, at).is_ok(),
             None => false,
         };
-        self.answers(is_done)
+        self.answers(is_done)?;
+        self.reads = self.reads.saturating_add(1);
+        Ok(())
     }
 
     fn write(&mut self, at: u64, bytes: &[u8]) -> Result<(), Off> {
