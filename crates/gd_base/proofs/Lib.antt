@@ -18,6 +18,8 @@ pub mod Fields
 pub mod Records
 pub mod OneView
 pub mod Same
+pub mod EmptyView
+pub mod Views
 pub mod SoFar
 pub mod SoFarRules
 pub mod SoFarSteps

@@ -16,6 +16,7 @@ pub mod ViewOf
 pub mod Rule
 pub mod Draws
 pub mod Machine
+pub mod Blocks
 pub mod Legal
 pub mod Answer
 pub mod Spelled
@@ -38,6 +39,7 @@ pub mod PayloadRows
 pub mod FullRows
 pub mod Books
 pub mod OneView
+pub mod TellsViews
 pub mod Whole
 pub mod Exact
 pub mod Indexes

@@ -7,6 +7,8 @@ mod draws;
 mod event;
 pub mod laws;
 mod layout;
+mod list_draws;
+mod listing;
 mod machine_core;
 mod names;
 mod play;
@@ -21,7 +23,7 @@ mod tests;
 mod text;
 
 pub use chance::pick;
-pub use draws::{Draws, ListDraws};
+pub use draws::Draws;
 pub use event::{
     Colour, Condition, Device, Door, Event, Game, METERS, Meter, Refusal, Reply, Tilt,
 };
@@ -29,6 +31,7 @@ pub use layout::{
     BALANCE_AT, BILLS_LEN, COUNT_AT, EVENTS_LEN, HANDPAY_AT, HEAD_LEN, KEPT_AT, KEPT_LEN,
     OPEN_PLAY_LEN, PAYLOAD_LEN, PLAY_LEN, PLAYS_LEN, TOTALS_AT, VOUCHERS_LEN,
 };
+pub use list_draws::ListDraws;
 pub use machine_core::{Core, MOST_ENTRIES};
 pub use play::{
     BILLS_KEPT, BillRecord, Block, Choices, EVENTS_KEPT, EventRecord, Handpay, Order, OrderKind,

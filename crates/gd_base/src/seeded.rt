@@ -3,8 +3,8 @@
 ghost use Rattle.std.specs.Prelude.{◌≡◌};
 ghost use Rattle.gd_base.specs.KeyStream.{key_bytes, seeded};
 
-use super::draws::Draws;
-use super::play::Block;
+use crate::draws::Draws;
+use crate::play::Block;
 use rand_chacha::ChaCha20Rng;
 use rand_core::{SeedableRng, utils};
 use std::marker::Model;
@@ -38,7 +38,11 @@ impl ChaChaDraws {
 }
 
 impl Draws for ChaChaDraws {
+    ghost use Rattle.gd_base.specs.Blocks.{seeded_are};
+
     ghost block_of = { seeded };
+
+    ghost are_blocks = { seeded_are };
 
     fn block(&mut self, lap: u64, index: u64) -> Block {
         block_at(self.seed, lap, index)

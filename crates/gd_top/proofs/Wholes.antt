@@ -33,7 +33,8 @@ use Rattle.gd_base.proofs.Wins.{most_win}
 use Rattle.gd_play.proofs.Fresh.{first_asked}
 use Rattle.gd_top.specs.declared.first_core.books.Books.{Books}
 use Rattle.gd_top.specs.Books.{AreWords, view_of}
-use Rattle.gd_top.specs.Histories.{IsSpelled, IsBlock, AreBlocks, KeepsAllRules}
+use Rattle.gd_base.specs.Blocks.{IsBlock, AreBlocks}
+use Rattle.gd_top.specs.Histories.{IsSpelled, KeepsAllRules}
 use Rattle.gd_top.proofs.Plays.{IsKept, of_round, play_taken, plain_play, stage_small, drawn}
 
 abbrev pub after_entry : Setup → View → ℕ → Event → Option (ℕ × List ℕ) → Reply → View

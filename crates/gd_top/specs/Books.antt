@@ -18,7 +18,7 @@ use Rattle.gd_base.specs.Stage.{is_bet}
 use Rattle.gd_base.specs.View.{View}
 use Rattle.gd_base.specs.ViewOf.{with_entry}
 use Rattle.gd_play.specs.Moving.{phase_of}
-use Rattle.gd_top.specs.Histories.{IsBlock}
+use Rattle.gd_base.specs.Blocks.{IsBlock}
 use Rattle.gd_top.specs.declared.first_core.books.Books.{Books}
 use Rattle.gd_top.specs.declared.first_core.reels_table.ReelsTable.{ReelsTable}
 

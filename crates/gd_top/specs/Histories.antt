@@ -1,7 +1,7 @@
 -- What each legal history of what is built keeps.
-use Rattle.std.specs.Prelude.{◌≡◌, ℕ, ◌^◌, nat_lt, IsTrue, List, length}
-use Rattle.std.specs.List.{list_all}
+use Rattle.std.specs.Prelude.{◌≡◌, ℕ, IsTrue, List}
 use Rattle.gd_base.specs.declared.setup.Setup.{Setup}
+use Rattle.gd_base.specs.Blocks.{AreBlocks}
 use Rattle.gd_base.specs.Entry.{Entry}
 use Rattle.gd_base.specs.Legal.{IsLegal, view_over}
 use Rattle.gd_base.specs.Machine.{Blocks}
@@ -9,13 +9,6 @@ use Rattle.gd_base.specs.Payload.{payload_of}
 use Rattle.gd_base.specs.SoFar.{machine_so_far, is_whole_so_far, spelled_so_far}
 use Rattle.gd_base.specs.Spelled.{Shows}
 use Rattle.gd_base.specs.View.{View}
-
--- sixteen words of 64 bits
-abbrev pub IsBlock : List ℕ → Type 0
-IsBlock words = (length words ≡ 16) × IsTrue (list_all (λ w. nat_lt w (2 ^ 64)) words)
-
-abbrev pub AreBlocks : Blocks → Type 0
-AreBlocks blocks = (lap index : ℕ) → IsBlock (blocks lap index)
 
 -- a view that keeps all rules of a view, and that its payload spells
 abbrev pub IsSpelled : Setup → View → Type 0

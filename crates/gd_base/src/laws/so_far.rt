@@ -6,6 +6,7 @@ ghost use Rattle.gd_base.specs.Entry.{Entry};
 ghost use Rattle.gd_base.specs.Indexes.{RiseSoFar};
 ghost use Rattle.gd_base.specs.Legal.{view_over};
 ghost use Rattle.gd_base.specs.SoFar.{machine_so_far, without_recall};
+ghost use Rattle.gd_base.specs.TellsViews.{TellsViewsSoFar};
 ghost use Rattle.gd_base.specs.View.{View};
 ghost use Rattle.gd_base.specs.ViewOf.{view_after, from_view};
 
@@ -18,4 +19,10 @@ pub fn whole_history()
 /// In one legal history of it no block is used twice, and none has index 0 where the history begins with a start.
 pub fn no_block_twice()
     ensures { RiseSoFar }
+{}
+
+/// Two views that payloads spell, and that its test calls the same, are one. A view that a payload spells, with no entry and
+/// with the text of the empty state, is the empty view.
+pub fn tells_views()
+    ensures { TellsViewsSoFar }
 {}

@@ -1,0 +1,12 @@
+use Rattle.std.proofs.Common.{arith, ℕ, suc, ◌≡◌, ◌^◌, ◌<◌, nat_lt, true, List, [], ◌∷◌, get_or, refl}
+use Rattle.std.specs.List.{list_all}
+use Rattle.gd_base.specs.TheMachine.{both_hold}
+use Rattle.gd_base.proofs.Rules.{is_below}
+use Rattle.gd_base.proofs.listing.fits.Goals as goal
+
+each_below : (xs : List ℕ) → ((i : ℕ) → get_or xs i 0 < 2 ^ 64) → list_all (λ w. nat_lt w (2 ^ 64)) xs ≡ true
+each_below [] f = refl
+each_below (x ∷ xs) f = both_hold (nat_lt x (2 ^ 64)) (list_all (λ w. nat_lt w (2 ^ 64)) xs) (is_below x (2 ^ 64) (f 0)) (each_below xs (λ i. f (suc i)))
+
+pub returns : goal.returns
+returns c = each_below c.args.words.now (λ i. omega (arith, c.type_inv.words i))
