@@ -11,7 +11,8 @@ use Rattle.gd_base.specs.declared.layout.TheConstants.{HEAD_LEN, OPEN_PLAY_LEN, 
 use Rattle.gd_base.specs.declared.play.Handpay.{Handpay}
 use Rattle.gd_base.specs.declared.play.PlayRecord.{PlayRecord}
 use Rattle.gd_base.specs.declared.setup.Setup.{Setup}
-use Rattle.gd_base.specs.Payload.{two, eight, filled, kept_bytes, handpay_bytes, order_bytes, open_bytes, play_bytes, event_bytes, bill_bytes, voucher_bytes, game_code, choice_code, head_bytes, payload_of}
+use Rattle.gd_base.specs.Payload.{two, eight, filled, kept_bytes, handpay_bytes, order_bytes, open_bytes, play_bytes, event_bytes, bill_bytes, voucher_bytes, choice_code, head_bytes, payload_of}
+use Rattle.gd_base.specs.Numbers.{game_number}
 use Rattle.gd_base.specs.Reading.{number_at, short_at, sixteen_at, kept_read, handpay_read, play_read, open_read, game_of, choice_of}
 use Rattle.gd_base.specs.SoFar.{view_so_far, view_at, all_kept, is_whole_so_far, spelled_so_far, is_plain}
 use Rattle.gd_base.specs.Spelled.{Shows, Unreadable}
@@ -230,7 +231,7 @@ open_behind h r len =
 
 -- ================ the play itself
 
-game_back : (g : Game) → game_of (game_code g) ≡ g
+game_back : (g : Game) → game_of (game_number g) ≡ g
 game_back Game.Reels = refl
 game_back Game.Poker = refl
 

@@ -12,7 +12,8 @@ use Rattle.gd_base.specs.declared.setup.Setup.{Setup}
 use Rattle.gd_base.specs.Credit.{wager, credited_win}
 use Rattle.gd_base.specs.Entry.{Entry, device_of}
 use Rattle.gd_base.specs.History.{or_else}
-use Rattle.gd_base.specs.Meters.{meter_place, meters, with_one, with_additions, win_additions, additions, handpay_of_win}
+use Rattle.gd_base.specs.Numbers.{meter_place}
+use Rattle.gd_base.specs.Meters.{meters, with_one, with_additions, win_additions, additions, handpay_of_win}
 use Rattle.gd_base.specs.Recall.{play_record, start_of}
 use Rattle.gd_base.specs.Rounds.{Round, round_of, new_round, chosen, is_over, posted, win_of}
 use Rattle.gd_base.specs.SoFar.{view_so_far, machine_so_far, with_reply}

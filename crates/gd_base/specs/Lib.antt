@@ -21,6 +21,7 @@ pub mod Legal
 pub mod Answer
 pub mod Spelled
 pub mod Opens
+pub mod Numbers
 pub mod Names
 pub mod Texts
 pub mod Payload

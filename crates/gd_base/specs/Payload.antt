@@ -1,7 +1,6 @@
 -- How a payload spells a view, in the draft layout: the fields in a row, each part filled up with zeros.
 use Rattle.std.specs.Prelude.{ℕ, ◌+◌, ◌-◌, ◌*◌, Bool, if◌then◌else◌, List, [], ◌∷◌, ◌++◌, length, replicate, flat_map, Option, Some, None}
 use Rattle.std.specs.Int.{w16, w32, w64, to_be_bytes}
-use Rattle.gd_base.specs.declared.event.Condition.{Condition}
 use Rattle.gd_base.specs.declared.event.Game.{Game}
 use Rattle.gd_base.specs.declared.event.Refusal.{Refusal}
 use Rattle.gd_base.specs.declared.event.Reply.{Reply}
@@ -10,9 +9,9 @@ use Rattle.gd_base.specs.declared.play.BillRecord.{BillRecord}
 use Rattle.gd_base.specs.declared.play.EventRecord.{EventRecord}
 use Rattle.gd_base.specs.declared.play.Handpay.{Handpay}
 use Rattle.gd_base.specs.declared.play.Order.{Order}
-use Rattle.gd_base.specs.declared.play.OrderKind.{OrderKind}
 use Rattle.gd_base.specs.declared.play.PlayRecord.{PlayRecord}
 use Rattle.gd_base.specs.declared.play.VoucherRecord.{VoucherRecord}
+use Rattle.gd_base.specs.Numbers.{game_number, kind_number, refusal_condition, refusal_number}
 use Rattle.gd_base.specs.View.{View}
 
 abbrev pub two : ℕ → List ℕ
@@ -41,13 +40,9 @@ choice_code game None = 0
 choice_code Game.Reels (Some door) = door
 choice_code Game.Poker (Some mask) = 32 + mask
 
-abbrev pub game_code : Game → ℕ
-game_code Game.Reels = 1
-game_code Game.Poker = 2
-
 abbrev pub play_bytes : PlayRecord → List ℕ
 play_bytes p =
-    eight p.number ++ eight p.index ++ flat_map eight p.words ++ game_code p.game ∷ p.bet ∷ four p.wager
+    eight p.number ++ eight p.index ++ flat_map eight p.words ++ game_number p.game ∷ p.bet ∷ four p.wager
     ++ choice_code p.game p.choice ∷ p.turns ∷ p.colours ∷ 0 ∷ []
     ++ eight p.win ++ eight p.before ++ eight p.after ++ eight p.place
 
@@ -61,42 +56,6 @@ abbrev pub voucher_bytes : VoucherRecord → List ℕ
 voucher_bytes v = eight v.place ++ v.kind ∷ eight v.id ++ four v.value
 
 -- ================ replies, orders, handpays
-
-abbrev pub condition_number : Condition → ℕ
-condition_number Condition.LogicDoor = 1
-condition_number Condition.MainDoor = 2
-condition_number Condition.CashboxDoor = 3
-condition_number Condition.DropDoor = 4
-condition_number Condition.BillJam = 5
-condition_number Condition.CoinJam = 6
-condition_number Condition.StackerFull = 7
-condition_number Condition.PaperOut = 8
-condition_number Condition.PrintFail = 9
-condition_number Condition.HopperEmpty = 10
-condition_number Condition.Handpay = 11
-
-abbrev pub refusal_number : Refusal → ℕ
-refusal_number (Refusal.LockedUp condition) = 1
-refusal_number Refusal.CreditLimit = 2
-refusal_number Refusal.ValueNotEnabled = 3
-refusal_number Refusal.NoGame = 4
-refusal_number Refusal.BadWager = 5
-refusal_number Refusal.NoCredit = 6
-refusal_number Refusal.PlayOpen = 7
-refusal_number Refusal.NoPlay = 8
-refusal_number Refusal.BadChoice = 9
-refusal_number Refusal.OrderOpen = 10
-refusal_number Refusal.NothingToPay = 11
-refusal_number Refusal.NoSuchOrder = 12
-refusal_number Refusal.NoSuchTilt = 13
-refusal_number Refusal.NoHandpay = 14
-refusal_number Refusal.VoucherSeen = 15
-refusal_number Refusal.DoorAlready = 16
-
--- the number of the condition that a refusal names, or 0
-abbrev pub refusal_condition : Refusal → ℕ
-refusal_condition (Refusal.LockedUp condition) = condition_number condition
-refusal_condition _ = 0
 
 abbrev pub reply_kind : Option Reply → ℕ
 reply_kind None = 0
@@ -120,10 +79,6 @@ kept_bytes k = eight k.0 ++ reply_bytes k.1 ++ 0 ∷ []
 abbrev pub handpay_bytes : Option Handpay → List ℕ
 handpay_bytes None = 0 ∷ 0 ∷ eight 0
 handpay_bytes (Some h) = (if h.win then 1 else 2) ∷ 0 ∷ eight h.amount
-
-abbrev pub kind_number : OrderKind → ℕ
-kind_number OrderKind.Printer = 1
-kind_number OrderKind.Hopper = 2
 
 abbrev pub kind_code : Option Order → ℕ
 kind_code None = 0

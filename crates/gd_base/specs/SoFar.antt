@@ -12,7 +12,8 @@ use Rattle.gd_base.specs.declared.play.PlayRecord.{PlayRecord}
 use Rattle.gd_base.specs.declared.setup.Setup.{Setup}
 use Rattle.gd_base.specs.Devices.{devices, kept_at}
 use Rattle.gd_base.specs.Draws.{is_play}
-use Rattle.gd_base.specs.Entry.{device_place, is_device, is_taken}
+use Rattle.gd_base.specs.Numbers.{device_place, is_device}
+use Rattle.gd_base.specs.Entry.{is_taken}
 use Rattle.gd_base.specs.Machine.{Machine}
 use Rattle.gd_base.specs.Payload.{payload_of}
 use Rattle.gd_base.specs.Reading.{number_at, sixteen_at, kept_read, handpay_read, open_read}

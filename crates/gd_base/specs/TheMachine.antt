@@ -7,7 +7,7 @@ use Rattle.gd_base.specs.declared.setup.Setup.{Setup}
 use Rattle.gd_base.specs.declared.step.What.{What}
 use Rattle.gd_base.specs.Devices.{kept_at}
 use Rattle.gd_base.specs.Draws.{is_drawn, next_index}
-use Rattle.gd_base.specs.Entry.{device_place}
+use Rattle.gd_base.specs.Numbers.{device_place}
 use Rattle.gd_base.specs.Machine.{Machine}
 use Rattle.gd_base.specs.Payload.{payload_of}
 use Rattle.gd_base.specs.Rule.{rule}

@@ -11,6 +11,7 @@ mod list_draws;
 mod listing;
 mod machine_core;
 mod names;
+mod numbers;
 mod play;
 mod seeded;
 mod setup;

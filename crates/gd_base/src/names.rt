@@ -1,10 +1,10 @@
 //! The names that texts use. docs/FORMATS.md lists them.
 
 ghost use Rattle.std.specs.Prelude.{◌≡◌, ◌≤◌, length};
-ghost use Rattle.gd_base.specs.Names.{device_name, condition_name, game_name, meter_name, phase_name, refusal_name};
+ghost use Rattle.gd_base.specs.Names.{condition_name, device_name, door_name, game_name, meter_name, phase_name, refusal_name, tilt_name};
 
-use super::event::{Condition, Device, Game, Meter, Refusal};
-use super::play::StageOpen;
+use crate::event::{Condition, Device, Door, Game, Meter, Refusal, Tilt};
+use crate::play::StageOpen;
 
 impl Device {
     /// The device's name in reports, scripts and station lines, as `bill`.
@@ -23,6 +23,31 @@ impl Device {
             Device::Attendant => "attendant",
             Device::Power => "power",
         }
+    }
+}
+
+impl Door {
+    /// The door's name in scripts and in the texts of events, as `main`.
+    pub fn name(&self) -> &'static str
+        ensures value { result.now ≡ door_name self.now }
+        ensures short { length result.now ≤ 7 }
+    {
+        match self {
+            Door::Logic => "logic",
+            Door::Main => "main",
+            Door::Cashbox => "cashbox",
+            Door::Drop => "drop",
+        }
+    }
+}
+
+impl Tilt {
+    /// The tilt's name in scripts and texts: that of its condition, as `bill-jam`.
+    pub fn name(&self) -> &'static str
+        ensures value { result.now ≡ tilt_name self.now }
+        ensures short { length result.now ≤ 12 }
+    {
+        self.condition().name()
     }
 }
 
@@ -104,28 +129,28 @@ impl Meter {
 }
 
 impl Refusal {
-    /// The refusal's number, from 1, and its name in replies, as `2 credit-limit`.
+    /// The refusal's name in replies, as `credit-limit`. A lock-up has its condition's name beside it.
     pub fn name(&self) -> &'static str
         ensures value { result.now ≡ refusal_name self.now }
-        ensures short { length result.now ≤ 19 }
+        ensures short { length result.now ≤ 17 }
     {
         match self {
-            Refusal::LockedUp(_) => "1 locked-up",
-            Refusal::CreditLimit => "2 credit-limit",
-            Refusal::ValueNotEnabled => "3 value-not-enabled",
-            Refusal::NoGame => "4 no-game",
-            Refusal::BadWager => "5 bad-wager",
-            Refusal::NoCredit => "6 no-credit",
-            Refusal::PlayOpen => "7 play-open",
-            Refusal::NoPlay => "8 no-play",
-            Refusal::BadChoice => "9 bad-choice",
-            Refusal::OrderOpen => "10 order-open",
-            Refusal::NothingToPay => "11 nothing-to-pay",
-            Refusal::NoSuchOrder => "12 no-such-order",
-            Refusal::NoSuchTilt => "13 no-such-tilt",
-            Refusal::NoHandpay => "14 no-handpay",
-            Refusal::VoucherSeen => "15 voucher-seen",
-            Refusal::DoorAlready => "16 door-already",
+            Refusal::LockedUp(_) => "locked-up",
+            Refusal::CreditLimit => "credit-limit",
+            Refusal::ValueNotEnabled => "value-not-enabled",
+            Refusal::NoGame => "no-game",
+            Refusal::BadWager => "bad-wager",
+            Refusal::NoCredit => "no-credit",
+            Refusal::PlayOpen => "play-open",
+            Refusal::NoPlay => "no-play",
+            Refusal::BadChoice => "bad-choice",
+            Refusal::OrderOpen => "order-open",
+            Refusal::NothingToPay => "nothing-to-pay",
+            Refusal::NoSuchOrder => "no-such-order",
+            Refusal::NoSuchTilt => "no-such-tilt",
+            Refusal::NoHandpay => "no-handpay",
+            Refusal::VoucherSeen => "voucher-seen",
+            Refusal::DoorAlready => "door-already",
         }
     }
 }

@@ -4,9 +4,10 @@ ghost use Rattle.std.specs.Prelude.{◌≡◌, ◌≤◌, ◌<◌, ◌+◌, ◌^
 ghost use Rattle.arrayvec.specs.ArrayString.{array_string_len};
 ghost use Rattle.gd_base.specs.Meters.{meters};
 ghost use Rattle.gd_base.specs.Names.{refusal_text, reply_text};
+ghost use Rattle.gd_base.specs.Numbers.{refusal_number};
 ghost use Rattle.gd_base.specs.Texts.{padded, meter_line, meter_lines};
 
-use super::event::{METERS, Meter, Refusal, Reply};
+use crate::event::{METERS, Meter, Refusal, Reply};
 use arrayvec::ArrayString;
 use itoa::Buffer;
 
@@ -72,11 +73,22 @@ fn push_refusal(text: &mut Text, why: Refusal)
     ensures bytes { text.new.bytes ≡ text.old.bytes ++ refusal_text why }
     ensures room { array_string_len text.new ≤ array_string_len text.old + 32 }
 {
+    push_refusal_number(text, why);
+    text.push_str(" ");
     text.push_str(why.name());
     if let Refusal::LockedUp(condition) = why {
         text.push_str(" ");
         text.push_str(condition.name());
     }
+}
+
+/// Appends a refusal's number: at most 2 bytes.
+fn push_refusal_number(text: &mut Text, why: Refusal)
+    requires { array_string_len text.old + 20 ≤ TEXT_LEN }
+    ensures bytes { text.new.bytes ≡ text.old.bytes ++ decimal (refusal_number why) }
+    ensures room { array_string_len text.new ≤ array_string_len text.old + 2 }
+{
+    push_number(text, u64::from(why.number()));
 }
 
 /// Appends a number below 10^10 in ten digits.

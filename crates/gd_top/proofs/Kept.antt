@@ -6,7 +6,7 @@ use Rattle.gd_base.specs.declared.event.Reply.{Reply}
 use Rattle.gd_base.specs.declared.play.PlayRecord.{PlayRecord}
 use Rattle.gd_base.specs.declared.setup.Setup.{Setup}
 use Rattle.gd_base.specs.Devices.{kept_at}
-use Rattle.gd_base.specs.Entry.{device_place}
+use Rattle.gd_base.specs.Numbers.{device_place}
 use Rattle.gd_base.specs.SoFar.{with_reply}
 use Rattle.gd_base.specs.Spelling.{is_flagged_last}
 use Rattle.gd_base.proofs.Rules.{both, is_so}

@@ -4,7 +4,8 @@ use Rattle.std.specs.List.{flat_map}
 use Rattle.std.proofs.lemmas.List.{drop-replicate, replicate-append-replicate}
 use Rattle.gd_base.specs.declared.layout.TheConstants.{HEAD_LEN, OPEN_PLAY_LEN, PLAYS_LEN, EVENTS_LEN, BILLS_LEN, VOUCHERS_LEN, PAYLOAD_LEN, PLAY_LEN}
 use Rattle.gd_base.specs.declared.play.PlayRecord.{PlayRecord}
-use Rattle.gd_base.specs.Payload.{four, eight, game_code, choice_code, play_bytes, filled}
+use Rattle.gd_base.specs.Payload.{four, eight, choice_code, play_bytes, filled}
+use Rattle.gd_base.specs.Numbers.{game_number}
 use Rattle.gd_top.specs.Books.{put_at}
 use Rattle.gd_top.proofs.Head.{put_behind, row_length, eight_long}
 
@@ -14,7 +15,7 @@ abbrev ids : PlayRecord → List ℕ
 ids p = flat_map eight (p.number ∷ p.index ∷ [])
 
 abbrev choices : PlayRecord → List ℕ
-choices p = game_code p.game ∷ p.bet ∷ four p.wager ++ choice_code p.game p.choice ∷ p.turns ∷ p.colours ∷ 0 ∷ []
+choices p = game_number p.game ∷ p.bet ∷ four p.wager ++ choice_code p.game p.choice ∷ p.turns ∷ p.colours ∷ 0 ∷ []
 
 abbrev pub amounts : PlayRecord → List ℕ
 amounts p = flat_map eight (p.win ∷ p.before ∷ p.after ∷ p.place ∷ [])
@@ -24,7 +25,7 @@ seven u g c w b a p = simp append_assoc
 
 play_row : (p : PlayRecord) → ids p ++ flat_map eight p.words ++ choices p ++ amounts p ≡ play_bytes p
 play_row p =
-    seven (ids p ++ flat_map eight p.words) (game_code p.game ∷ p.bet ∷ four p.wager) (choice_code p.game p.choice ∷ p.turns ∷ p.colours ∷ 0 ∷ []) (eight p.win) (eight p.before) (eight p.after) (eight p.place)
+    seven (ids p ++ flat_map eight p.words) (game_number p.game ∷ p.bet ∷ four p.wager) (choice_code p.game p.choice ∷ p.turns ∷ p.colours ∷ 0 ∷ []) (eight p.win) (eight p.before) (eight p.after) (eight p.place)
 
 pub play_written : (place : ℕ) (p : PlayRecord) (bytes : List ℕ) → length p.words ≡ 16 → place + PLAY_LEN ≤ length bytes
     → put_at (place + 154) (amounts p) (put_at (place + 144) (choices p) (put_at (place + 16) (flat_map eight p.words) (put_at place (ids p) bytes))) ≡ put_at place (play_bytes p) bytes

@@ -7,7 +7,7 @@ ghost use Rattle.gd_base.specs.declared.event.Meter.{Meter};
 ghost use Rattle.gd_base.specs.declared.play.PlayRecord.{PlayRecord};
 ghost use Rattle.gd_base.specs.Answer.{IsDraw};
 ghost use Rattle.gd_base.specs.Draws.{next_index};
-ghost use Rattle.gd_base.specs.Meters.{meter_place};
+ghost use Rattle.gd_base.specs.Numbers.{meter_place};
 ghost use Rattle.gd_base.specs.Rounds.{round_of};
 ghost use Rattle.gd_base.specs.Rule.{rule};
 ghost use Rattle.gd_base.specs.SoFar.{is_drawn_so_far, rule_so_far};

@@ -3,7 +3,7 @@
 ghost use Rattle.std.specs.Prelude.{◌≡◌, ◌≤◌, ◌^◌};
 ghost use Rattle.gd_base.specs.Answer.{answer, is_new};
 ghost use Rattle.gd_base.specs.Devices.{kept_at};
-ghost use Rattle.gd_base.specs.Entry.{device_place};
+ghost use Rattle.gd_base.specs.Numbers.{device_place};
 ghost use Rattle.gd_base.specs.SoFar.{machine_so_far};
 ghost use Rattle.gd_base.specs.View.{View};
 ghost use Rattle.gd_base.specs.ViewCode.{coded_view};

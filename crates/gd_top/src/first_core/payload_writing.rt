@@ -1,7 +1,8 @@
 //! The payload of a view so far, written.
 
 ghost use Rattle.std.specs.Prelude.{◌≡◌, ◌≤◌, ◌+◌, ◌*◌, [], ◌∷◌, ◌++◌, length, replicate, flat_map, None, IsTrue, IfSome, option_copied};
-ghost use Rattle.gd_base.specs.Payload.{four, eight, kept_bytes, reply_kind, reply_refusal, reply_condition, refusal_number, refusal_condition, condition_number, handpay_bytes, game_code, choice_code, play_bytes, open_bytes, head_bytes, filled, payload_of};
+ghost use Rattle.gd_base.specs.Payload.{four, eight, kept_bytes, reply_kind, reply_refusal, reply_condition, handpay_bytes, choice_code, play_bytes, open_bytes, head_bytes, filled, payload_of};
+ghost use Rattle.gd_base.specs.Numbers.{refusal_number, refusal_condition, condition_number, game_number};
 ghost use Rattle.gd_base.specs.Spelling.{is_choice_value};
 ghost use Rattle.gd_top.specs.Books.{view_of, put_at};
 
@@ -93,7 +94,7 @@ fn handpay_image(handpay: Option<Handpay>) -> [u8; 10]
 }
 
 fn game_number(game: Game) -> u8
-    ensures { result ≡ game_code game }
+    ensures { result ≡ game_number game }
 {
     match game {
         Game::Reels => 1,
@@ -115,7 +116,7 @@ fn choice_number(game: Game, choice: Option<u8>) -> u8
 /// What stands between the words and the amounts of a play: its game, bet, wager and choices.
 fn choices_image(play: &PlayRecord) -> [u8; 10]
     requires { IsTrue (is_choice_value play.now.game play.now.choice) }
-    ensures { result ≡ game_code play.now.game ∷ play.now.bet ∷ four play.now.wager ++ choice_code play.now.game play.now.choice ∷ play.now.turns ∷ play.now.colours ∷ 0 ∷ [] }
+    ensures { result ≡ game_number play.now.game ∷ play.now.bet ∷ four play.now.wager ++ choice_code play.now.game play.now.choice ∷ play.now.turns ∷ play.now.colours ∷ 0 ∷ [] }
 {
     let [w0, w1, w2, w3] = play.wager.to_be_bytes();
     let game = game_number(play.game);
