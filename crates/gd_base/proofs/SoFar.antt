@@ -7,7 +7,7 @@ use Rattle.std.proofs.Math.Seq.{drop-append-add}
 use Rattle.std.specs.Int.{w32, w64, from_be_bytes}
 use Rattle.gd_base.specs.declared.event.Game.{Game}
 use Rattle.gd_base.specs.declared.event.Reply.{Reply}
-use Rattle.gd_base.specs.declared.layout.TheConstants.{HEAD_LEN, OPEN_PLAY_LEN, PLAYS_LEN, EVENTS_LEN, BILLS_LEN, VOUCHERS_LEN, COUNT_AT, BALANCE_AT, TOTALS_AT, HANDPAY_AT, KEPT_AT, KEPT_LEN}
+use Rattle.gd_base.specs.declared.layout.TheConstants.{HEAD_LEN, OPEN_PLAY_LEN, PLAYS_LEN, EVENTS_LEN, BILLS_LEN, VOUCHERS_LEN, REST_LEN, COUNT_AT, BALANCE_AT, TOTALS_AT, HANDPAY_AT, KEPT_AT, KEPT_LEN}
 use Rattle.gd_base.specs.declared.play.Handpay.{Handpay}
 use Rattle.gd_base.specs.declared.play.PlayRecord.{PlayRecord}
 use Rattle.gd_base.specs.declared.setup.Setup.{Setup}
@@ -324,7 +324,7 @@ open_back (Some p) rest t = let back = play_back p p.words rest (play_widths p t
 behind : View → List ℕ
 behind v =
     filled PLAYS_LEN (flat_map play_bytes v.plays) ++ (filled EVENTS_LEN (flat_map event_bytes v.events)
-    ++ (filled BILLS_LEN (flat_map bill_bytes v.bills) ++ filled VOUCHERS_LEN (flat_map voucher_bytes v.vouchers)))
+    ++ (filled BILLS_LEN (flat_map bill_bytes v.bills) ++ filled (VOUCHERS_LEN + REST_LEN) (flat_map voucher_bytes v.vouchers)))
 
 six : (a b c d e f : List ℕ) → a ++ b ++ c ++ d ++ e ++ f ≡ a ++ (b ++ (c ++ (d ++ (e ++ f))))
 six a b c d e f = simp append_assoc
@@ -333,7 +333,7 @@ payload_split : (v : View) → payload_of v ≡ filled HEAD_LEN (head_bytes v) +
 unfolding behind
 payload_split v =
     six (filled HEAD_LEN (head_bytes v)) (filled OPEN_PLAY_LEN (open_bytes v.play)) (filled PLAYS_LEN (flat_map play_bytes v.plays)) (filled EVENTS_LEN (flat_map event_bytes v.events))
-    (filled BILLS_LEN (flat_map bill_bytes v.bills)) (filled VOUCHERS_LEN (flat_map voucher_bytes v.vouchers))
+    (filled BILLS_LEN (flat_map bill_bytes v.bills)) (filled (VOUCHERS_LEN + REST_LEN) (flat_map voucher_bytes v.vouchers))
 
 module _ (count balance : ℕ) (totals : List ℕ) (play : Option PlayRecord) (handpay : Option Handpay) (kept : List Kept) where
   abbrev whole : View

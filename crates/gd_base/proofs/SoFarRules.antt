@@ -18,7 +18,8 @@ use Rattle.gd_base.specs.Recall.{play_record}
 use Rattle.gd_base.specs.Rounds.{round_of, round_stage, choices_of, new_round, chosen}
 use Rattle.gd_base.specs.Rule.{is_bill}
 use Rattle.gd_base.specs.SetupRules.{rise_above}
-use Rattle.gd_base.specs.SoFar.{view_so_far, with_reply, is_reels, is_plain, is_whole_so_far}
+use Rattle.gd_base.specs.SoFar.{view_so_far, is_reels, is_plain, is_whole_so_far}
+use Rattle.gd_base.specs.Devices.{with_reply}
 use Rattle.gd_base.specs.Spelling.{is_possible, is_possible_under, view_rules, setup_rules, record_rules, is_play_record, is_played, is_in, is_choice_value, is_some_handpay, not_both, is_placed, open_is, is_flagged_last, outgo, income, held_in}
 use Rattle.gd_base.specs.Stage.{stage, is_bet, is_phase, are_choices}
 use Rattle.gd_base.proofs.Fields.{Each, each_passed}

@@ -16,7 +16,8 @@ use Rattle.gd_base.specs.Numbers.{meter_place}
 use Rattle.gd_base.specs.Meters.{meters, with_one, with_additions, win_additions, additions, handpay_of_win}
 use Rattle.gd_base.specs.Recall.{play_record, start_of}
 use Rattle.gd_base.specs.Rounds.{Round, round_of, new_round, chosen, is_over, posted, win_of}
-use Rattle.gd_base.specs.SoFar.{view_so_far, machine_so_far, with_reply}
+use Rattle.gd_base.specs.SoFar.{view_so_far, machine_so_far}
+use Rattle.gd_base.specs.Devices.{with_reply}
 use Rattle.gd_base.specs.View.{View}
 use Rattle.gd_base.specs.ViewOf.{from_view}
 use Rattle.gd_base.proofs.KeptOpen.{no_win}

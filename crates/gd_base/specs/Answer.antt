@@ -1,6 +1,7 @@
 -- What a numbered event is answered, by the view alone. A core's step, a cabinet's submission, a session's trace and
 -- a run all mean this.
 use Rattle.std.specs.Prelude.{◌≡◌, ℕ, ◌+◌, ◌^◌, ◌==◌, Bool, true, false, not, ◌&&◌, nat_le, if◌then◌else◌, List, Option, Some, None}
+use Rattle.gd_base.specs.declared.limits.TheConstants.{MOST_ENTRIES}
 use Rattle.gd_base.specs.declared.step.Numbered.{Numbered}
 use Rattle.gd_base.specs.declared.step.Stepped.{Stepped}
 use Rattle.gd_base.specs.Entry.{Entry, device_of}
@@ -8,7 +9,7 @@ use Rattle.gd_base.specs.Legal.{draw_of}
 use Rattle.gd_base.specs.Machine.{Machine, Blocks}
 
 abbrev pub is_full : {V : Type 0} → Machine V → V → Bool
-is_full M v = nat_le (2 ^ 36) (M.count v)
+is_full M v = nat_le MOST_ENTRIES (M.count v)
 
 -- the last number is a repeat, the next one is new where the history has room, and any other is out of step
 abbrev pub answer_after : {V : Type 0} → Machine V → V → Numbered → ℕ → Stepped

@@ -1,5 +1,6 @@
 -- When each answer comes, exactly.
 use Rattle.std.specs.Prelude.{◌≡◌, ◌≢◌, ◌↔◌, ℕ, ◌+◌, ◌<◌, ◌≤◌, ◌^◌}
+use Rattle.gd_base.specs.declared.limits.TheConstants.{MOST_ENTRIES}
 use Rattle.gd_base.specs.declared.event.Reply.{Reply}
 use Rattle.gd_base.specs.declared.step.Numbered.{Numbered}
 use Rattle.gd_base.specs.declared.step.Stepped.{Stepped}
@@ -11,8 +12,8 @@ use Rattle.gd_base.specs.Machine.{Machine, Blocks}
 -- A new number is judged where the history has room. The last number, where it isn't 0, gets the kept reply. Each other
 -- number is out of step. And a new event's entry is the next one of the history.
 pub record TellsExactly {V : Type 0} (M : Machine V) (v : V) (e : Numbered) (last : ℕ) : Type 0 where
-  pub new : (reply : Reply) → (answer M v e ≡ Stepped.New reply) ↔ ((e.number ≡ last + 1) × (M.count v < 2 ^ 36) × (M.rule v e.event ≡ reply))
-  pub full : (answer M v e ≡ Stepped.HistoryFull) ↔ ((e.number ≡ last + 1) × (2 ^ 36 ≤ M.count v))
+  pub new : (reply : Reply) → (answer M v e ≡ Stepped.New reply) ↔ ((e.number ≡ last + 1) × (M.count v < MOST_ENTRIES) × (M.rule v e.event ≡ reply))
+  pub full : (answer M v e ≡ Stepped.HistoryFull) ↔ ((e.number ≡ last + 1) × (MOST_ENTRIES ≤ M.count v))
   pub again : (reply : Reply) → (answer M v e ≡ Stepped.Again reply) ↔ ((e.number ≡ last) × (1 ≤ last) × (M.kept v (device_of e.event) ≡ reply))
   pub out_of_step : (expected : ℕ) → (answer M v e ≡ Stepped.OutOfStep expected)
       ↔ ((e.number ≢ last + 1) × (e.number ≡ last → last ≡ 0) × (last + 1 ≡ expected))

@@ -1,6 +1,7 @@
 -- Rules of a view that the next entry keeps.
 use Rattle.std.specs.Prelude.{ℕ, ◌+◌, ◌^◌, ◌==◌, Bool, IsTrue, nat_le, nat_lt, List, [], ◌∷◌, length, map, drop}
 use Rattle.std.specs.List.{list_all}
+use Rattle.gd_base.specs.declared.limits.TheConstants.{MOST_ENTRIES}
 use Rattle.gd_base.specs.declared.setup.Setup.{Setup}
 use Rattle.gd_base.specs.Entry.{Entry}
 use Rattle.gd_base.specs.Legal.{IsNext}
@@ -15,7 +16,7 @@ use Rattle.gd_base.specs.ViewOf.{with_entry}
 abbrev pub kept_rules : View → List Bool
 kept_rules v =
     (length v.digest == 32) ∷ list_all (λ b. nat_lt b 256) v.digest ∷ (length v.totals == 16) ∷ (length v.doors == 4) ∷ (length v.tilts == 6) ∷ (length v.kept == 9)
-    ∷ nat_le v.count (2 ^ 36) ∷ are_kept v ∷ (outgo v == income v) ∷ list_all (λ n. nat_le n v.count) (drop 9 v.totals) ∷ nat_le v.orders v.count
+    ∷ nat_le v.count MOST_ENTRIES ∷ are_kept v ∷ (outgo v == income v) ∷ list_all (λ n. nat_le n v.count) (drop 9 v.totals) ∷ nat_le v.orders v.count
     ∷ fall_from (v.count + 1) (map (λ e. e.place) v.events) ∷ fall_from (v.count + 1) (map (λ b. b.place) v.bills)
     ∷ fall_from (v.count + 1) (map (λ r. r.place) v.vouchers) ∷ are_short v ∷ is_small_order v.order ∷ has_number v.orders v.order
     ∷ is_some_handpay v.handpay ∷ is_one_open v ∷ []

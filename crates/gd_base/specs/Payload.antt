@@ -4,7 +4,7 @@ use Rattle.std.specs.Int.{w16, w32, w64, to_be_bytes}
 use Rattle.gd_base.specs.declared.event.Game.{Game}
 use Rattle.gd_base.specs.declared.event.Refusal.{Refusal}
 use Rattle.gd_base.specs.declared.event.Reply.{Reply}
-use Rattle.gd_base.specs.declared.layout.TheConstants.{HEAD_LEN, OPEN_PLAY_LEN, PLAYS_LEN, EVENTS_LEN, BILLS_LEN, VOUCHERS_LEN}
+use Rattle.gd_base.specs.declared.layout.TheConstants.{HEAD_LEN, OPEN_PLAY_LEN, PLAYS_LEN, EVENTS_LEN, BILLS_LEN, VOUCHERS_LEN, REST_LEN}
 use Rattle.gd_base.specs.declared.play.BillRecord.{BillRecord}
 use Rattle.gd_base.specs.declared.play.EventRecord.{EventRecord}
 use Rattle.gd_base.specs.declared.play.Handpay.{Handpay}
@@ -109,4 +109,4 @@ abbrev pub payload_of : View → List ℕ
 payload_of v =
     filled HEAD_LEN (head_bytes v) ++ filled OPEN_PLAY_LEN (open_bytes v.play)
     ++ filled PLAYS_LEN (flat_map play_bytes v.plays) ++ filled EVENTS_LEN (flat_map event_bytes v.events)
-    ++ filled BILLS_LEN (flat_map bill_bytes v.bills) ++ filled VOUCHERS_LEN (flat_map voucher_bytes v.vouchers)
+    ++ filled BILLS_LEN (flat_map bill_bytes v.bills) ++ filled (VOUCHERS_LEN + REST_LEN) (flat_map voucher_bytes v.vouchers)

@@ -99,13 +99,3 @@ machine_so_far setup = record (machine setup no_digest (spelled_so_far setup)) {
   is_drawn = is_drawn_so_far setup;
   count_effect = λ v e. refl;
 }
-
--- ================ what an entry keeps of its device
-
--- one number more, and its reply
-abbrev pub kept_after : Device → Reply → List (ℕ × Option Reply) → Device → ℕ × Option Reply
-kept_after d reply kept x =
-    ((kept_at kept (device_place x)).0 + (if is_device d x then 1 else 0), if is_device d x then Some reply else (kept_at kept (device_place x)).1)
-
-abbrev pub with_reply : Device → Reply → List (ℕ × Option Reply) → List (ℕ × Option Reply)
-with_reply d reply kept = map (kept_after d reply kept) devices

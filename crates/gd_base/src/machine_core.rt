@@ -1,6 +1,6 @@
 //! What a core is: a history kept as its view.
 
-ghost use Rattle.std.specs.Prelude.{◌≡◌, ◌≤◌, ◌^◌, ℕ, List, length, Option};
+ghost use Rattle.std.specs.Prelude.{◌≡◌, ◌≤◌, ℕ, List, length, Option};
 ghost use Rattle.std.specs.Coded.{Coded};
 ghost use Rattle.gd_base.specs.Answer.{answer, after_answer, is_draw_needed, IsDrawFor};
 ghost use Rattle.gd_base.specs.Machine.{Machine};
@@ -9,12 +9,10 @@ ghost use Rattle.gd_base.specs.Spelled.{Spelled, Shows, loaded};
 
 use super::event::Device;
 use super::layout::PAYLOAD_LEN;
+use super::limits::MOST_ENTRIES;
 use super::play::Block;
 use super::step::{Loaded, Numbered, Stepped, What};
 use super::text::Text;
-
-/// The most entries of a history: 2^36.
-pub const MOST_ENTRIES: u64 = 68719476736;
 
 /// A history kept as its view. No call takes memory, and none changes what the core means by events and payloads.
 pub trait Core {
@@ -64,7 +62,7 @@ pub trait Core {
     /// The number of entries, at most 2^36.
     fn count(&self) -> u64
         ensures value { result ≡ (meaning self.now).count (view self.now) }
-        ensures most { result ≤ 2 ^ 36 };
+        ensures most { result ≤ MOST_ENTRIES };
 
     /// A device's last number, 0 at first.
     fn last(&self, device: Device) -> u64

@@ -1,6 +1,6 @@
 //! Texts of a fixed room, and the functions by which they are written. docs/FORMATS.md has each text.
 
-ghost use Rattle.std.specs.Prelude.{◌≡◌, ◌≤◌, ◌<◌, ◌+◌, ◌^◌, ◌++◌, [], ◌∷◌, length, replicate, decimal};
+ghost use Rattle.std.specs.Prelude.{◌≡◌, ◌≤◌, ◌<◌, ◌+◌, ◌^◌, ◌++◌, [], ◌∷◌, codes, length, replicate, decimal};
 ghost use Rattle.arrayvec.specs.ArrayString.{array_string_len};
 ghost use Rattle.gd_base.specs.Meters.{meters};
 ghost use Rattle.gd_base.specs.Names.{refusal_text, reply_text};
@@ -26,6 +26,17 @@ pub fn push_number(text: &mut Text, n: u64)
 {
     let mut buffer = Buffer::new();
     text.push_str(buffer.format(n));
+}
+
+/// Appends a line of a word and a number. `word` has the space behind it. At most 21 bytes and those of the word.
+pub fn push_count_line(text: &mut Text, word: &str, n: u64)
+    requires { array_string_len text.old + length word.now + 21 ≤ TEXT_LEN }
+    ensures bytes { text.new.bytes ≡ text.old.bytes ++ word.now ++ decimal n ++ codes "\n" }
+    ensures room { array_string_len text.new ≤ array_string_len text.old + length word.now + 21 }
+{
+    text.push_str(word);
+    push_number(text, n);
+    text.push_str("\n");
 }
 
 /// Appends a meter's line: its name, and its total modulo 10^10 in ten digits. At most 23 bytes.

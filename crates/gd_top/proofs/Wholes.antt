@@ -20,7 +20,8 @@ use Rattle.gd_base.specs.Recall.{play_record}
 use Rattle.gd_base.specs.Rounds.{Round, round_of, round_stage, choices_of, new_round, chosen, is_over}
 use Rattle.gd_base.specs.Rule.{rule, refusals, unless, is_at, is_bill}
 use Rattle.gd_base.specs.Payload.{payload_of}
-use Rattle.gd_base.specs.SoFar.{machine_so_far, rule_so_far, is_drawn_so_far, is_whole_so_far, view_so_far, with_reply, spelled_so_far}
+use Rattle.gd_base.specs.SoFar.{machine_so_far, rule_so_far, is_drawn_so_far, is_whole_so_far, view_so_far, spelled_so_far}
+use Rattle.gd_base.specs.Devices.{with_reply}
 use Rattle.gd_base.specs.Spelled.{Shows}
 use Rattle.gd_base.specs.Stage.{stage, is_bet, are_choices}
 use Rattle.gd_base.specs.View.{View}

@@ -13,7 +13,8 @@ use Rattle.gd_base.specs.Credit.{credited_win, wager}
 use Rattle.gd_base.specs.History.{or_else}
 use Rattle.gd_base.specs.Numbers.{meter_place}
 use Rattle.gd_base.specs.Meters.{with_one, with_additions, win_additions, handpay_of_win}
-use Rattle.gd_base.specs.SoFar.{view_so_far, with_reply, without_recall, is_reels, is_whole_so_far}
+use Rattle.gd_base.specs.SoFar.{view_so_far, without_recall, is_reels, is_whole_so_far}
+use Rattle.gd_base.specs.Devices.{with_reply}
 use Rattle.gd_base.specs.Spelled.{Spelled, Shows, Unreadable}
 use Rattle.gd_base.specs.Stage.{is_bet}
 use Rattle.gd_base.specs.View.{View}

@@ -5,7 +5,7 @@ ghost use Rattle.arrayvec.specs.ArrayString.{array_string_len};
 ghost use Rattle.gd_store.specs.Repair.{repaired};
 ghost use Rattle.gd_top.specs.Lines.{answer_line, copy_text, full_line, power_line, repair_text, start_line, step_line};
 
-use gd_base::{Device, Reply, TEXT_LEN, Text, push_number, push_reply};
+use gd_base::{Device, Reply, TEXT_LEN, Text, push_count_line, push_number, push_reply};
 use gd_store::{CopyState, Found, Why};
 
 /// Appends the line of power-on `k`, counted from 1, with the states of the two copies. At most 87 bytes.
@@ -135,17 +135,6 @@ pub(crate) fn push_end_line(text: &mut Text, n: u64, credit: u64)
     text.push_str("\n");
 }
 
-/// Appends a line of a word and a number. `word` has the space behind it.
-pub(crate) fn push_count(text: &mut Text, word: &str, n: u64)
-    requires { array_string_len text.old + length word.now + 21 ≤ TEXT_LEN }
-    ensures bytes { text.new.bytes ≡ text.old.bytes ++ word.now ++ decimal n ++ codes "\n" }
-    ensures room { array_string_len text.new ≤ array_string_len text.old + length word.now + 21 }
-{
-    text.push_str(word);
-    push_number(text, n);
-    text.push_str("\n");
-}
-
 /// Appends the last line of a run that a line of its script ended, `n` being that line's place, counted from 1. At most 26
 /// bytes.
 pub(crate) fn push_fault_line(text: &mut Text, n: u64)
@@ -153,5 +142,5 @@ pub(crate) fn push_fault_line(text: &mut Text, n: u64)
     ensures bytes { text.new.bytes ≡ text.old.bytes ++ (codes "line " ++ decimal n ++ codes "\n") }
     ensures room { array_string_len text.new ≤ array_string_len text.old + 26 }
 {
-    push_count(text, "line ", n);
+    push_count_line(text, "line ", n);
 }

@@ -17,7 +17,7 @@ ghost use Rattle.gd_play.specs.Words.{machine_phase, machine_play, machine_table
 ghost use Rattle.gd_top.specs.Books.{AreFit, HasRoom, acted, begun, is_fresh, left_at, replied, settled, view_of, with_bill, with_wager};
 
 use super::books::{Books, add};
-use super::judging::{judge_bill, judge_play, wager};
+use super::judging::{judge_bill, judge_play};
 use super::reels_table::ReelsTable;
 use super::settling::settle;
 use gd_base::{Block, Condition, Event, Game, Meter, PlayRecord, Refusal, Reply, Setup, StageOpen};
@@ -51,7 +51,7 @@ fn new_play(setup: &Setup, books: &Books, bet: u8, drawn: &(u64, Block)) -> Play
         words,
         game: Game::Reels,
         bet,
-        wager: wager(setup, bet),
+        wager: setup.wager(bet),
         choice: None,
         turns: 0,
         colours: 0,

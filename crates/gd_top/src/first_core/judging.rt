@@ -20,13 +20,6 @@ fn is_enabled(setup: &Setup, value: u32) -> bool
         .any(|bill| *bill == value)
 }
 
-/// The wager of a bet, in cents.
-pub(crate) fn wager(setup: &Setup, bet: u8) -> u32
-    ensures { result ≡ wager_of setup.now bet }
-{
-    u32::from(bet) * u32::from(setup.denom)
-}
-
 /// Judges a bill of a value.
 pub(crate) fn judge_bill(setup: &Setup, books: &Books, value: u32) -> Reply
     requires { books.now.balance < 2 ^ 63 }
@@ -60,7 +53,7 @@ pub(crate) fn judge_play(setup: &Setup, books: &Books, is_open: bool, bet: u8) -
     if bet < 1 || bet > 9 {
         return Reply::Refused(Refusal::BadWager);
     }
-    if books.balance < u64::from(wager(setup, bet)) {
+    if books.balance < u64::from(setup.wager(bet)) {
         return Reply::Refused(Refusal::NoCredit);
     }
     Reply::Taken

@@ -111,7 +111,7 @@ fn is_played_so_far(setup: &Setup, play: &PlayRecord) -> bool
     if !may_choose(setup, play) {
         return false;
     }
-    play.wager == wager(setup, play.bet) && has_stage(setup, play)
+    play.wager == setup.wager(play.bet) && has_stage(setup, play)
 }
 
 /// Whether a play that is open at this count of entries keeps the rules.

@@ -5,7 +5,7 @@ ghost use Rattle.std.specs.List.{list_all};
 ghost use Rattle.gd_base.specs.Devices.{kept_at};
 ghost use Rattle.gd_base.specs.Entry.{device_of};
 ghost use Rattle.gd_base.specs.Numbers.{device_place};
-ghost use Rattle.gd_base.specs.SoFar.{with_reply};
+ghost use Rattle.gd_base.specs.Devices.{with_reply};
 ghost use Rattle.gd_top.specs.Books.{AreWords, with_note};
 
 use super::books::Books;

@@ -12,8 +12,7 @@ ghost use Rattle.gd_top.specs.Checks.{is_in_order};
 
 use super::books::Books;
 use super::play_lines::push_play;
-use crate::report::push_count;
-use gd_base::{Handpay, PlayRecord, Setup, TEXT_LEN, Text, What, push_meters, push_number};
+use gd_base::{Handpay, PlayRecord, Setup, TEXT_LEN, Text, What, push_count_line, push_meters, push_number};
 
 /// Appends the line of the condition that locks the machine up: only a handpay can. At most 18 bytes.
 fn push_condition(text: &mut Text, books: &Books)
@@ -51,7 +50,7 @@ fn push_state(text: &mut Text, setup: &Setup, books: &Books, play: Option<&PlayR
     ensures bytes { text.new.bytes ≡ text.old.bytes ++ state_text setup.now (view_of books.now (option_copied play.entry)) }
     ensures room { array_string_len text.new ≤ array_string_len text.old + 330 }
 {
-    push_count(text, "credit ", books.balance);
+    push_count_line(text, "credit ", books.balance);
     push_condition(text, books);
     text.push_str("order none\n");
     push_handpay(text, &books.handpay);
@@ -75,7 +74,7 @@ pub(crate) fn show_view(
         What::Meters => push_meters(into, &books.totals),
         What::State => push_state(into, setup, books, play),
         What::Recall => {
-            push_count(into, "recall ", 0);
+            push_count_line(into, "recall ", 0);
             push_play(into, setup, play, "");
         }
         What::Events => into.push_str("events 0\nbills 0\nvouchers 0\n"),

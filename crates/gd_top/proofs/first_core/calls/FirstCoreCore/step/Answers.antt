@@ -7,7 +7,8 @@ use Rattle.gd_base.specs.Devices.{kept_at}
 use Rattle.gd_base.specs.Draws.{next_index}
 use Rattle.gd_base.specs.Entry.{Entry, device_of}
 use Rattle.gd_base.specs.Numbers.{device_place}
-use Rattle.gd_base.specs.SoFar.{machine_so_far, is_drawn_so_far, with_reply, is_whole_so_far}
+use Rattle.gd_base.specs.SoFar.{machine_so_far, is_drawn_so_far, is_whole_so_far}
+use Rattle.gd_base.specs.Devices.{with_reply}
 use Rattle.gd_base.proofs.Answer.{answer_new}
 use Rattle.gd_play.specs.Words.{machine_phase, machine_play, machine_table}
 use Rattle.gd_top.specs.Books.{view_of}
