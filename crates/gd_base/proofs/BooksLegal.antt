@@ -3,13 +3,13 @@ use Rattle.std.specs.Prelude.{◌≡◌, ℕ, zero, suc, ◌+◌, ◌-◌, ◌*�
 use Rattle.std.specs.List.{find}
 use Rattle.std.proofs.Common.{ap, sym, ◌∙◌, arith}
 use Rattle.std.proofs.lemmas.Bool.Decides.{nat_tests}
-use Rattle.gd_base.specs.declared.event.Condition.{Condition}
+use Rattle.gd_base.specs.declared.condition.Condition.{Condition}
 use Rattle.gd_base.specs.declared.event.Event.{Event}
-use Rattle.gd_base.specs.declared.event.Refusal.{Refusal}
-use Rattle.gd_base.specs.declared.event.Reply.{Reply}
-use Rattle.gd_base.specs.declared.play.Handpay.{Handpay}
-use Rattle.gd_base.specs.declared.play.Order.{Order}
-use Rattle.gd_base.specs.declared.play.OrderKind.{OrderKind}
+use Rattle.gd_base.specs.declared.refusal.Refusal.{Refusal}
+use Rattle.gd_base.specs.declared.refusal.Reply.{Reply}
+use Rattle.gd_base.specs.declared.payout.Handpay.{Handpay}
+use Rattle.gd_base.specs.declared.payout.Order.{Order}
+use Rattle.gd_base.specs.declared.payout.OrderKind.{OrderKind}
 use Rattle.gd_base.specs.declared.setup.Setup.{Setup}
 use Rattle.gd_base.specs.Conditions.{lock, holds, conditions}
 use Rattle.std.proofs.Math.Nat.{le-div_iff_mul-le}

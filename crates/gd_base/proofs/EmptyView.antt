@@ -6,13 +6,13 @@ use Rattle.std.proofs.lemmas.Bool.{cases_lt}
 use Rattle.std.proofs.lemmas.Bool.Decides.{nat_tests}
 use Rattle.std.proofs.lemmas.List.{get_or-drop}
 use Rattle.std.proofs.lemmas.List.Sums.{sum_by-cons}
-use Rattle.gd_base.specs.declared.event.Reply.{Reply}
-use Rattle.gd_base.specs.declared.play.BillRecord.{BillRecord}
-use Rattle.gd_base.specs.declared.play.EventRecord.{EventRecord}
-use Rattle.gd_base.specs.declared.play.Handpay.{Handpay}
-use Rattle.gd_base.specs.declared.play.Order.{Order}
+use Rattle.gd_base.specs.declared.refusal.Reply.{Reply}
+use Rattle.gd_base.specs.declared.records.BillRecord.{BillRecord}
+use Rattle.gd_base.specs.declared.records.EventRecord.{EventRecord}
+use Rattle.gd_base.specs.declared.payout.Handpay.{Handpay}
+use Rattle.gd_base.specs.declared.payout.Order.{Order}
 use Rattle.gd_base.specs.declared.play.PlayRecord.{PlayRecord}
-use Rattle.gd_base.specs.declared.play.VoucherRecord.{VoucherRecord}
+use Rattle.gd_base.specs.declared.records.VoucherRecord.{VoucherRecord}
 use Rattle.gd_base.specs.Payload.{left_of}
 use Rattle.gd_base.specs.Spelling.{is_possible, view_rules, total, income, outgo, held_in, is_flagged_last, fall_from, play_limit, is_small_order, has_number, is_some_handpay, open_is, is_open_record, is_balanced, are_kept, are_places}
 use Rattle.gd_base.specs.View.{View}
@@ -78,7 +78,7 @@ total_none : (v : View) → outgo v ≡ income v → income v ≤ v.count * 1000
     → (i : ℕ) → slice_index v.totals i ≡ 0
 total_none v same most counts e i = ⊎_elim (first_nine v (are_zero v same most e) i)
     (λ le. let sums : 9 + (i - 9) ≡ i = omega (arith, le) in
-        ap (λ (k : ℕ). slice_index v.totals k) (sym sums) ∙ sym (get_or-drop 9 v.totals (i - 9) 0) ∙ none_above v.count (drop 9 v.totals) (i - 9) e counts)
+    ap (λ (k : ℕ). slice_index v.totals k) (sym sums) ∙ sym (get_or-drop 9 v.totals (i - 9) 0) ∙ none_above v.count (drop 9 v.totals) (i - 9) e counts)
     (cases_lt i 9)
 
 -- ================ what is kept of the devices
@@ -158,9 +158,9 @@ bare v h e =
     let limit : play_limit v v.play ≤ 1 = (let is : play_limit v v.play ≡ v.count + 1 = ap (play_limit v) play in omega (arith, is, e)) in
     let more : v.count + 1 ≤ 1 = omega (arith, e) in
     let a = both (fall_from (play_limit v v.play) (map (λ p. p.place) v.plays) && fall_from (v.count + 1) (map (λ x. x.place) v.events)
-        && fall_from (v.count + 1) (map (λ b. b.place) v.bills)) (fall_from (v.count + 1) (map (λ r. r.place) v.vouchers)) t.1.1.1.1.1.1.1.1.1.1.1.0 in
+    && fall_from (v.count + 1) (map (λ b. b.place) v.bills)) (fall_from (v.count + 1) (map (λ r. r.place) v.vouchers)) t.1.1.1.1.1.1.1.1.1.1.1.0 in
     let b = both (fall_from (play_limit v v.play) (map (λ p. p.place) v.plays) && fall_from (v.count + 1) (map (λ x. x.place) v.events))
-        (fall_from (v.count + 1) (map (λ b. b.place) v.bills)) a.0 in
+    (fall_from (v.count + 1) (map (λ b. b.place) v.bills)) a.0 in
     let c = both (fall_from (play_limit v v.play) (map (λ p. p.place) v.plays)) (fall_from (v.count + 1) (map (λ x. x.place) v.events)) b.0 in
     record {
       balance = omega (arith, same, most, e);

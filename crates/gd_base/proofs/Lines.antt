@@ -1,7 +1,7 @@
 -- The lines of the meters, one line more.
 use Rattle.std.proofs.Common.{◌≡◌, ◌+◌, ◌<◌, ◌++◌, ℕ, zero, suc, List, [], ◌∷◌, length, take, arith, ap, sym, ◌∙◌, append_assoc, append-nil}
 use Rattle.std.specs.List.{slice_index_or}
-use Rattle.gd_base.specs.declared.event.Meter.{Meter}
+use Rattle.gd_base.specs.declared.meter.Meter.{Meter}
 use Rattle.gd_base.specs.Texts.{meter_line, meter_lines}
 
 one_line_more : (ms : List Meter) (totals : List ℕ) (i : ℕ) (m : Meter) → i < length ms → i < length totals

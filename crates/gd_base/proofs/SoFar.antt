@@ -5,10 +5,10 @@ use Rattle.std.proofs.lemmas.List.{get_or-append-add}
 use Rattle.std.proofs.lemmas.Nat.{from_be_bytes-to_be_bytes_4, from_be_bytes-to_be_bytes_8}
 use Rattle.std.proofs.Math.Seq.{drop-append-add}
 use Rattle.std.specs.Int.{w32, w64, from_be_bytes}
-use Rattle.gd_base.specs.declared.event.Game.{Game}
-use Rattle.gd_base.specs.declared.event.Reply.{Reply}
+use Rattle.gd_base.specs.declared.game.Game.{Game}
+use Rattle.gd_base.specs.declared.refusal.Reply.{Reply}
 use Rattle.gd_base.specs.declared.layout.TheConstants.{HEAD_LEN, OPEN_PLAY_LEN, PLAYS_LEN, EVENTS_LEN, BILLS_LEN, VOUCHERS_LEN, REST_LEN, COUNT_AT, BALANCE_AT, TOTALS_AT, HANDPAY_AT, KEPT_AT, KEPT_LEN}
-use Rattle.gd_base.specs.declared.play.Handpay.{Handpay}
+use Rattle.gd_base.specs.declared.payout.Handpay.{Handpay}
 use Rattle.gd_base.specs.declared.play.PlayRecord.{PlayRecord}
 use Rattle.gd_base.specs.declared.setup.Setup.{Setup}
 use Rattle.gd_base.specs.Payload.{two, eight, filled, kept_bytes, handpay_bytes, order_bytes, open_bytes, play_bytes, event_bytes, bill_bytes, voucher_bytes, choice_code, head_bytes, payload_of}

@@ -1,12 +1,12 @@
 -- What an entry makes of a view of what is built.
 use Rattle.std.proofs.Common.{◌≡◌, ◌∙◌, ap, refl, ℕ, ◌+◌, ◌-◌, ◌≤◌, List, [], ◌∷◌, Bool, true, false, if◌then◌else◌, length, map, slice_index, arith, Option, Some, None, option_map}
-use Rattle.gd_base.specs.declared.event.Device.{Device}
+use Rattle.gd_base.specs.declared.device.Device.{Device}
 use Rattle.gd_base.specs.declared.event.Event.{Event}
-use Rattle.gd_base.specs.declared.event.Game.{Game}
-use Rattle.gd_base.specs.declared.event.Meter.{Meter}
-use Rattle.gd_base.specs.declared.event.Refusal.{Refusal}
-use Rattle.gd_base.specs.declared.event.Reply.{Reply}
-use Rattle.gd_base.specs.declared.play.Handpay.{Handpay}
+use Rattle.gd_base.specs.declared.game.Game.{Game}
+use Rattle.gd_base.specs.declared.meter.Meter.{Meter}
+use Rattle.gd_base.specs.declared.refusal.Refusal.{Refusal}
+use Rattle.gd_base.specs.declared.refusal.Reply.{Reply}
+use Rattle.gd_base.specs.declared.payout.Handpay.{Handpay}
 use Rattle.gd_base.specs.declared.play.PlayRecord.{PlayRecord}
 use Rattle.gd_base.specs.declared.setup.Setup.{Setup}
 use Rattle.gd_base.specs.Credit.{wager, credited_win}

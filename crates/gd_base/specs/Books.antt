@@ -1,6 +1,6 @@
 -- The books: nothing is lost or made.
 use Rattle.std.specs.Prelude.{◌≡◌, ℕ, ◌+◌, IsTrue, List, []}
-use Rattle.gd_base.specs.declared.event.Meter.{Meter}
+use Rattle.gd_base.specs.declared.meter.Meter.{Meter}
 use Rattle.gd_base.specs.declared.setup.Setup.{Setup}
 use Rattle.gd_base.specs.Credit.{balance, ordered}
 use Rattle.gd_base.specs.Entry.{Entry}

@@ -1,6 +1,6 @@
 -- Worked rows of what the words of a play decide, to be computed under the built-in setup.
 use Rattle.std.specs.Prelude.{◌≡◌, ℕ, List, [], ◌∷◌, codes, map, replicate}
-use Rattle.gd_base.specs.declared.play.Rank.{Rank}
+use Rattle.gd_base.specs.declared.game.Rank.{Rank}
 use Rattle.gd_base.specs.declared.tables.TheConstants.{PRIZES, REEL_PAYS, STRIPS, SYMBOLS}
 use Rattle.gd_base.specs.BuiltIn.{built_in_setup}
 use Rattle.gd_base.specs.Chance.{word_for, window, prize, line_wins, scatter_count, hand, final_hand, rank, hand_pay}

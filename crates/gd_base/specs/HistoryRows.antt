@@ -1,13 +1,13 @@
 -- Worked rows as histories over the empty view, to be computed: replies, totals, counts and balances.
 use Rattle.std.specs.Prelude.{◌≡◌, ℕ, zero, suc, ◌==◌, ◌&&◌, nat_le, IsTrue, if◌then◌else◌, List, [], ◌∷◌, ◌++◌, drop, map, reverse, replicate, refl}
-use Rattle.gd_base.specs.declared.event.Colour.{Colour}
-use Rattle.gd_base.specs.declared.event.Condition.{Condition}
-use Rattle.gd_base.specs.declared.event.Door.{Door}
+use Rattle.gd_base.specs.declared.game.Colour.{Colour}
+use Rattle.gd_base.specs.declared.condition.Condition.{Condition}
+use Rattle.gd_base.specs.declared.condition.Door.{Door}
 use Rattle.gd_base.specs.declared.event.Event.{Event}
-use Rattle.gd_base.specs.declared.event.Game.{Game}
-use Rattle.gd_base.specs.declared.event.Refusal.{Refusal}
-use Rattle.gd_base.specs.declared.event.Reply.{Reply}
-use Rattle.gd_base.specs.declared.event.Tilt.{Tilt}
+use Rattle.gd_base.specs.declared.game.Game.{Game}
+use Rattle.gd_base.specs.declared.refusal.Refusal.{Refusal}
+use Rattle.gd_base.specs.declared.refusal.Reply.{Reply}
+use Rattle.gd_base.specs.declared.condition.Tilt.{Tilt}
 use Rattle.gd_base.specs.declared.setup.Setup.{Setup}
 use Rattle.gd_base.specs.BuiltIn.{built_in_setup}
 use Rattle.gd_base.specs.ChanceRows.{pick_words, royal_words, ace_words, gamble_words}

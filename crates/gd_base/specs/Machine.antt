@@ -1,8 +1,8 @@
 -- A machine as a run, a cabinet and a session see it: by its view alone. A toy can stand in its place.
 use Rattle.std.specs.Prelude.{◌≡◌, ℕ, ◌+◌, Bool, true, List}
-use Rattle.gd_base.specs.declared.event.Device.{Device}
+use Rattle.gd_base.specs.declared.device.Device.{Device}
 use Rattle.gd_base.specs.declared.event.Event.{Event}
-use Rattle.gd_base.specs.declared.event.Reply.{Reply}
+use Rattle.gd_base.specs.declared.refusal.Reply.{Reply}
 use Rattle.gd_base.specs.declared.step.What.{What}
 use Rattle.gd_base.specs.Entry.{Entry}
 use Rattle.gd_base.specs.Spelled.{Spelled}

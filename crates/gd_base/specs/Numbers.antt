@@ -1,13 +1,13 @@
 -- The places of the values of an enum, from 0, and the numbers by which formats name them, from 1.
 use Rattle.std.specs.Prelude.{ℕ, ◌+◌, Bool, ◌==◌, Option, Some, None}
-use Rattle.gd_base.specs.declared.event.Condition.{Condition}
-use Rattle.gd_base.specs.declared.event.Device.{Device}
-use Rattle.gd_base.specs.declared.event.Door.{Door}
-use Rattle.gd_base.specs.declared.event.Game.{Game}
-use Rattle.gd_base.specs.declared.event.Meter.{Meter}
-use Rattle.gd_base.specs.declared.event.Refusal.{Refusal}
-use Rattle.gd_base.specs.declared.event.Tilt.{Tilt}
-use Rattle.gd_base.specs.declared.play.OrderKind.{OrderKind}
+use Rattle.gd_base.specs.declared.condition.Condition.{Condition}
+use Rattle.gd_base.specs.declared.device.Device.{Device}
+use Rattle.gd_base.specs.declared.condition.Door.{Door}
+use Rattle.gd_base.specs.declared.game.Game.{Game}
+use Rattle.gd_base.specs.declared.meter.Meter.{Meter}
+use Rattle.gd_base.specs.declared.refusal.Refusal.{Refusal}
+use Rattle.gd_base.specs.declared.condition.Tilt.{Tilt}
+use Rattle.gd_base.specs.declared.payout.OrderKind.{OrderKind}
 
 -- ================ places
 

@@ -1,16 +1,16 @@
 -- How a payload spells a view, in the draft layout: the fields in a row, each part filled up with zeros.
 use Rattle.std.specs.Prelude.{ℕ, ◌+◌, ◌-◌, ◌*◌, Bool, if◌then◌else◌, List, [], ◌∷◌, ◌++◌, length, replicate, flat_map, Option, Some, None}
 use Rattle.std.specs.Int.{w16, w32, w64, to_be_bytes}
-use Rattle.gd_base.specs.declared.event.Game.{Game}
-use Rattle.gd_base.specs.declared.event.Refusal.{Refusal}
-use Rattle.gd_base.specs.declared.event.Reply.{Reply}
+use Rattle.gd_base.specs.declared.game.Game.{Game}
+use Rattle.gd_base.specs.declared.refusal.Refusal.{Refusal}
+use Rattle.gd_base.specs.declared.refusal.Reply.{Reply}
 use Rattle.gd_base.specs.declared.layout.TheConstants.{HEAD_LEN, OPEN_PLAY_LEN, PLAYS_LEN, EVENTS_LEN, BILLS_LEN, VOUCHERS_LEN, REST_LEN}
-use Rattle.gd_base.specs.declared.play.BillRecord.{BillRecord}
-use Rattle.gd_base.specs.declared.play.EventRecord.{EventRecord}
-use Rattle.gd_base.specs.declared.play.Handpay.{Handpay}
-use Rattle.gd_base.specs.declared.play.Order.{Order}
+use Rattle.gd_base.specs.declared.records.BillRecord.{BillRecord}
+use Rattle.gd_base.specs.declared.records.EventRecord.{EventRecord}
+use Rattle.gd_base.specs.declared.payout.Handpay.{Handpay}
+use Rattle.gd_base.specs.declared.payout.Order.{Order}
 use Rattle.gd_base.specs.declared.play.PlayRecord.{PlayRecord}
-use Rattle.gd_base.specs.declared.play.VoucherRecord.{VoucherRecord}
+use Rattle.gd_base.specs.declared.records.VoucherRecord.{VoucherRecord}
 use Rattle.gd_base.specs.Numbers.{game_number, kind_number, refusal_condition, refusal_number}
 use Rattle.gd_base.specs.View.{View}
 

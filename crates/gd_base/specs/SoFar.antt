@@ -1,13 +1,13 @@
 -- While the machine is being built: what it makes of the events and payloads of which not all is there yet. Each
 -- definition here goes when its part is built.
 use Rattle.std.specs.Prelude.{ℕ, ◌+◌, ◌*◌, Bool, true, false, ◌&&◌, ◌==◌, if◌then◌else◌, List, [], ◌∷◌, map, replicate, Option, Some, refl}
-use Rattle.gd_base.specs.declared.event.Device.{Device}
+use Rattle.gd_base.specs.declared.device.Device.{Device}
 use Rattle.gd_base.specs.declared.event.Event.{Event}
-use Rattle.gd_base.specs.declared.event.Game.{Game}
-use Rattle.gd_base.specs.declared.event.Refusal.{Refusal}
-use Rattle.gd_base.specs.declared.event.Reply.{Reply}
+use Rattle.gd_base.specs.declared.game.Game.{Game}
+use Rattle.gd_base.specs.declared.refusal.Refusal.{Refusal}
+use Rattle.gd_base.specs.declared.refusal.Reply.{Reply}
 use Rattle.gd_base.specs.declared.layout.TheConstants.{HEAD_LEN, COUNT_AT, BALANCE_AT, TOTALS_AT, HANDPAY_AT, KEPT_AT, KEPT_LEN}
-use Rattle.gd_base.specs.declared.play.Handpay.{Handpay}
+use Rattle.gd_base.specs.declared.payout.Handpay.{Handpay}
 use Rattle.gd_base.specs.declared.play.PlayRecord.{PlayRecord}
 use Rattle.gd_base.specs.declared.setup.Setup.{Setup}
 use Rattle.gd_base.specs.Devices.{devices, kept_at}

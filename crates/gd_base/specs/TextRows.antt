@@ -1,7 +1,7 @@
 -- Worked rows of texts, to be computed.
 use Rattle.std.specs.Prelude.{◌≡◌, [], ◌∷◌, codes, take}
 use Rattle.gd_base.specs.declared.event.Event.{Event}
-use Rattle.gd_base.specs.declared.event.Game.{Game}
+use Rattle.gd_base.specs.declared.game.Game.{Game}
 use Rattle.gd_base.specs.BuiltIn.{built_in_setup}
 use Rattle.gd_base.specs.HistoryRows.{view_of_events, no_words, first_bill, open_pick, picked, open_coins, empty_hopper, ace_low, gambles, cancelled, evening, cancel_done}
 use Rattle.gd_base.specs.Texts.{meters_text, state_text, recall_text, order_text, events_text}

@@ -1,17 +1,17 @@
 -- A view is data: a code by which a proof tells two views apart.
 use Rattle.std.specs.Prelude.{◌≡◌, refl, ℕ, if◌then◌else◌, Bool, true, false, List, Option, Some, None}
 use Rattle.std.specs.Coded.{Coded, code_by, coded×, coded_bool, coded_list, coded_option, coded_ℕ}
-use Rattle.gd_base.specs.declared.event.Condition.{Condition}
-use Rattle.gd_base.specs.declared.event.Game.{Game}
-use Rattle.gd_base.specs.declared.event.Refusal.{Refusal}
-use Rattle.gd_base.specs.declared.event.Reply.{Reply}
-use Rattle.gd_base.specs.declared.play.BillRecord.{BillRecord}
-use Rattle.gd_base.specs.declared.play.EventRecord.{EventRecord}
-use Rattle.gd_base.specs.declared.play.Handpay.{Handpay}
-use Rattle.gd_base.specs.declared.play.Order.{Order}
-use Rattle.gd_base.specs.declared.play.OrderKind.{OrderKind}
+use Rattle.gd_base.specs.declared.condition.Condition.{Condition}
+use Rattle.gd_base.specs.declared.game.Game.{Game}
+use Rattle.gd_base.specs.declared.refusal.Refusal.{Refusal}
+use Rattle.gd_base.specs.declared.refusal.Reply.{Reply}
+use Rattle.gd_base.specs.declared.records.BillRecord.{BillRecord}
+use Rattle.gd_base.specs.declared.records.EventRecord.{EventRecord}
+use Rattle.gd_base.specs.declared.payout.Handpay.{Handpay}
+use Rattle.gd_base.specs.declared.payout.Order.{Order}
+use Rattle.gd_base.specs.declared.payout.OrderKind.{OrderKind}
 use Rattle.gd_base.specs.declared.play.PlayRecord.{PlayRecord}
-use Rattle.gd_base.specs.declared.play.VoucherRecord.{VoucherRecord}
+use Rattle.gd_base.specs.declared.records.VoucherRecord.{VoucherRecord}
 use Rattle.gd_base.specs.Payload.{reply_kind, reply_refusal, reply_condition}
 use Rattle.gd_base.specs.Reading.{reply_of}
 use Rattle.gd_base.specs.View.{View}

@@ -1,7 +1,7 @@
 //! The layout of a payload in bytes: its parts in a row, each filled up with zeros, the lengths of its records, and where the
 //! fields of the head stand. docs/FORMATS.md has all fields.
 
-use crate::play::{BILLS_KEPT, EVENTS_KEPT, PLAYS_KEPT, VOUCHERS_KEPT};
+use crate::records::{BILLS_KEPT, EVENTS_KEPT, PLAYS_KEPT, VOUCHERS_KEPT};
 
 /// The length of a payload.
 pub const PAYLOAD_LEN: usize = 16384;

@@ -3,17 +3,22 @@
 #![tactic(auto)]
 
 mod chance;
+mod condition;
+mod device;
 mod draws;
 mod event;
+mod game;
 pub mod laws;
 mod layout;
 mod limits;
 mod list_draws;
 mod listing;
 mod machine_core;
-mod names;
-mod numbers;
+mod meter;
+mod payout;
 mod play;
+mod records;
+mod refusal;
 mod seeded;
 mod setup;
 mod sink;
@@ -26,30 +31,103 @@ mod text;
 mod wager;
 
 pub use chance::pick;
+pub use condition::Condition;
+pub use condition::Door;
+pub use condition::Tilt;
+pub use device::Device;
 pub use draws::Draws;
-pub use event::{
-    Colour, Condition, Device, Door, Event, Game, METERS, Meter, Refusal, Reply, Tilt,
-};
-pub use layout::{
-    BALANCE_AT, BILL_LEN, BILLS_AT, BILLS_LEN, COUNT_AT, DOORS_AT, EVENT_LEN, EVENTS_AT,
-    EVENTS_LEN, HANDPAY_AT, HEAD_LEN, KEPT_AT, KEPT_LEN, LISTS_AT, OPEN_AT, OPEN_PLAY_LEN,
-    ORDER_AMOUNT_AT, ORDER_AT, ORDERS_AT, PAYLOAD_LEN, PLAY_LEN, PLAYS_AT, PLAYS_LEN, REST_LEN,
-    SETUP_DIGEST_LEN, TILTS_AT, TOTALS_AT, VOUCHER_LEN, VOUCHERS_AT, VOUCHERS_LEN,
-};
+pub use event::Event;
+pub use game::Colour;
+pub use game::Game;
+pub use game::Rank;
+pub use layout::BALANCE_AT;
+pub use layout::BILL_LEN;
+pub use layout::BILLS_AT;
+pub use layout::BILLS_LEN;
+pub use layout::COUNT_AT;
+pub use layout::DOORS_AT;
+pub use layout::EVENT_LEN;
+pub use layout::EVENTS_AT;
+pub use layout::EVENTS_LEN;
+pub use layout::HANDPAY_AT;
+pub use layout::HEAD_LEN;
+pub use layout::KEPT_AT;
+pub use layout::KEPT_LEN;
+pub use layout::LISTS_AT;
+pub use layout::OPEN_AT;
+pub use layout::OPEN_PLAY_LEN;
+pub use layout::ORDER_AMOUNT_AT;
+pub use layout::ORDER_AT;
+pub use layout::ORDERS_AT;
+pub use layout::PAYLOAD_LEN;
+pub use layout::PLAY_LEN;
+pub use layout::PLAYS_AT;
+pub use layout::PLAYS_LEN;
+pub use layout::REST_LEN;
+pub use layout::SETUP_DIGEST_LEN;
+pub use layout::TILTS_AT;
+pub use layout::TOTALS_AT;
+pub use layout::VOUCHER_LEN;
+pub use layout::VOUCHERS_AT;
+pub use layout::VOUCHERS_LEN;
+pub use limits::HELD_CARDS;
+pub use limits::MOST_AMOUNT;
+pub use limits::MOST_BILLS;
+pub use limits::MOST_COIN;
+pub use limits::MOST_DENOM;
+pub use limits::MOST_ENTRIES;
+pub use limits::MOST_GAMBLE_LIMIT;
+pub use limits::MOST_HOLD;
+pub use limits::MOST_HOPPER_LIMIT;
+pub use limits::MOST_PAY;
+pub use limits::MOST_PICK;
+pub use limits::MOST_POKER_BET;
+pub use limits::MOST_REELS_BET;
+pub use limits::MOST_TURNS;
 pub use list_draws::ListDraws;
-pub use limits::{
-    HELD_CARDS, MOST_AMOUNT, MOST_BILLS, MOST_COIN, MOST_DENOM, MOST_ENTRIES, MOST_GAMBLE_LIMIT,
-    MOST_HOLD, MOST_HOPPER_LIMIT, MOST_PAY, MOST_PICK, MOST_POKER_BET, MOST_REELS_BET, MOST_TURNS,
-};
 pub use machine_core::Core;
-pub use play::{
-    BILLS_KEPT, BillRecord, Block, Choices, EVENTS_KEPT, EventRecord, Handpay, Order, OrderKind,
-    PLAYS_KEPT, PlayRecord, Rank, Stage, StageOpen, VOUCHERS_KEPT, VoucherRecord,
-};
+pub use meter::METERS;
+pub use meter::Meter;
+pub use payout::Handpay;
+pub use payout::Order;
+pub use payout::OrderKind;
+pub use play::Block;
+pub use play::Choices;
+pub use play::PlayRecord;
+pub use play::Stage;
+pub use play::StageOpen;
+pub use records::BILLS_KEPT;
+pub use records::BillRecord;
+pub use records::EVENTS_KEPT;
+pub use records::EventRecord;
+pub use records::PLAYS_KEPT;
+pub use records::VOUCHERS_KEPT;
+pub use records::VoucherRecord;
+pub use refusal::Refusal;
+pub use refusal::Reply;
 pub use seeded::ChaChaDraws;
 pub use setup::Setup;
-pub use sink::{MemorySink, Sink, Writing};
-pub use source::{Failed, MemorySource, Reading, Source};
-pub use step::{Loaded, Numbered, Stepped, What};
-pub use tables::{LINES, PRIZES, REEL_PAYS, RUNS, STRIPS, SYMBOLS};
-pub use text::{TEXT_LEN, Text, push_count_line, push_meter, push_meters, push_number, push_reply};
+pub use sink::MemorySink;
+pub use sink::Sink;
+pub use sink::Writing;
+pub use source::Failed;
+pub use source::MemorySource;
+pub use source::Reading;
+pub use source::Source;
+pub use step::Loaded;
+pub use step::Numbered;
+pub use step::Stepped;
+pub use step::What;
+pub use tables::LINES;
+pub use tables::PRIZES;
+pub use tables::REEL_PAYS;
+pub use tables::RUNS;
+pub use tables::STRIPS;
+pub use tables::SYMBOLS;
+pub use text::TEXT_LEN;
+pub use text::Text;
+pub use text::push_count_line;
+pub use text::push_meter;
+pub use text::push_meters;
+pub use text::push_number;
+pub use text::push_reply;

@@ -7,12 +7,12 @@ ghost use Rattle.gd_base.specs.Machine.{Machine};
 ghost use Rattle.gd_base.specs.Opens.{view_loaded};
 ghost use Rattle.gd_base.specs.Spelled.{Spelled, Shows, loaded};
 
-use super::event::Device;
-use super::layout::PAYLOAD_LEN;
-use super::limits::MOST_ENTRIES;
-use super::play::Block;
-use super::step::{Loaded, Numbered, Stepped, What};
-use super::text::Text;
+use crate::device::Device;
+use crate::layout::PAYLOAD_LEN;
+use crate::limits::MOST_ENTRIES;
+use crate::play::Block;
+use crate::step::{Loaded, Numbered, Stepped, What};
+use crate::text::Text;
 
 /// A history kept as its view. No call takes memory, and none changes what the core means by events and payloads.
 pub trait Core {

@@ -7,7 +7,8 @@ ghost use Rattle.gd_base.specs.Names.{refusal_text, reply_text};
 ghost use Rattle.gd_base.specs.Numbers.{refusal_number};
 ghost use Rattle.gd_base.specs.Texts.{padded, meter_line, meter_lines};
 
-use crate::event::{METERS, Meter, Refusal, Reply};
+use crate::meter::{METERS, Meter};
+use crate::refusal::{Refusal, Reply};
 use arrayvec::ArrayString;
 use itoa::Buffer;
 

@@ -4,7 +4,7 @@ use Rattle.gd_disk.specs.Disk.{DiskState, IfTold}
 use Rattle.gd_base.specs.Answer.{answer, is_new}
 use Rattle.gd_base.specs.Machine.{Machine, Blocks}
 use Rattle.gd_base.specs.Spelled.{Spelled, Shows, Foreign, Unreadable}
-use Rattle.gd_base.specs.declared.event.Device.{Device}
+use Rattle.gd_base.specs.declared.device.Device.{Device}
 use Rattle.gd_base.specs.declared.event.Event.{Event}
 use Rattle.gd_base.specs.declared.step.Numbered.{Numbered}
 use Rattle.gd_store.specs.Copy.{found_in}

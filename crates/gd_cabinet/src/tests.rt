@@ -5,7 +5,7 @@ ghost use Rattle.std.specs.Int.{w64, from_be_bytes};
 ghost use Rattle.gd_disk.specs.Disk.{IsSynced};
 ghost use Rattle.gd_base.specs.Spelled.{Shows, Foreign, Unreadable};
 ghost use Rattle.gd_base.specs.TheMachine.{number_itself};
-ghost use Rattle.gd_base.specs.declared.event.Reply.{Reply};
+ghost use Rattle.gd_base.specs.declared.refusal.Reply.{Reply};
 ghost use Rattle.gd_store.specs.Opened.{IsOpenable};
 
 use crate::{Answer, Cabinet, CabinetOpened, Locked, Parts, Stop};

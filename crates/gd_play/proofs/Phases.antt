@@ -1,6 +1,6 @@
 -- Tests of stages, and which stages can be open.
 use Rattle.std.specs.Prelude.{◌≡◌, ◌==◌, ◌&&◌, ◌||◌, ℕ, Bool, true, false, nat_le, if◌then◌else◌, List, Option, Some, None, refl}
-use Rattle.gd_base.specs.declared.event.Game.{Game}
+use Rattle.gd_base.specs.declared.game.Game.{Game}
 use Rattle.gd_base.specs.declared.play.Choices.{Choices}
 use Rattle.gd_base.specs.declared.play.Stage.{Stage}
 use Rattle.gd_base.specs.declared.play.StageOpen.{StageOpen}

@@ -5,8 +5,8 @@ use Rattle.std.proofs.Math.Nat.{pow-suc, add-mul-div_right}
 use Rattle.std.proofs.lemmas.Bool.{ltb-true, lt-ltb, eqb-false}
 use Rattle.std.proofs.lemmas.Nat.{pow-add, pow_pos}
 use Rattle.gd_base.proofs.Rules.{both}
-use Rattle.gd_base.specs.declared.event.Colour.{Colour}
-use Rattle.gd_base.specs.declared.event.Game.{Game}
+use Rattle.gd_base.specs.declared.game.Colour.{Colour}
+use Rattle.gd_base.specs.declared.game.Game.{Game}
 use Rattle.gd_base.specs.declared.play.Choices.{Choices}
 use Rattle.gd_base.specs.declared.play.Stage.{Stage}
 use Rattle.gd_base.specs.declared.play.StageOpen.{StageOpen}

@@ -1,7 +1,7 @@
 //! What a game pays.
 
 ghost use Rattle.std.specs.Prelude.{◌≡◌, Bool, IsTrue};
-ghost use Rattle.gd_base.specs.declared.event.Game.{Game};
+ghost use Rattle.gd_base.specs.declared.game.Game.{Game};
 ghost use Rattle.gd_base.specs.declared.setup.Setup.{Setup};
 ghost use Rattle.gd_base.specs.Stage.{stage, is_bet, are_choices};
 

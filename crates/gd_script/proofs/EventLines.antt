@@ -1,6 +1,6 @@
 -- The event that the words of a line say.
 use Rattle.std.proofs.Common.{◌≡◌, ℕ, List, [], ◌∷◌, codes, decimal, option_map, Option, None, Some, refl, ap, subst, ◌∙◌, arith}
-use Rattle.gd_base.specs.declared.event.Colour.{Colour}
+use Rattle.gd_base.specs.declared.game.Colour.{Colour}
 use Rattle.gd_base.specs.declared.event.Event.{Event}
 use Rattle.gd_base.specs.Names.{game_name}
 use Rattle.gd_script.specs.declared.keyword.Keyword.{Keyword}

@@ -2,10 +2,10 @@
 use Rattle.std.proofs.Common.{◌≡◌, ◌≢◌, ℕ, Bool, true, false, cond, List, [], ◌∷◌, find, Option, Some, refl, sym, subst}
 use Rattle.std.proofs.lemmas.Slice.Eq.{bytes_eq-Decides}
 use Rattle.std.specs.Str.{bytes_eq}
-use Rattle.gd_base.specs.declared.event.Device.{Device}
-use Rattle.gd_base.specs.declared.event.Door.{Door}
-use Rattle.gd_base.specs.declared.event.Game.{Game}
-use Rattle.gd_base.specs.declared.event.Tilt.{Tilt}
+use Rattle.gd_base.specs.declared.device.Device.{Device}
+use Rattle.gd_base.specs.declared.condition.Door.{Door}
+use Rattle.gd_base.specs.declared.game.Game.{Game}
+use Rattle.gd_base.specs.declared.condition.Tilt.{Tilt}
 use Rattle.gd_base.specs.declared.step.What.{What}
 use Rattle.gd_base.specs.Names.{device_name, game_name}
 use Rattle.gd_disk.specs.declared.disk.CutUnit.{CutUnit}

@@ -7,12 +7,12 @@ use Rattle.std.proofs.lemmas.List.Splits.{slice_split_none, slice_split_at}
 use Rattle.std.proofs.lemmas.List.Sums.{AllPass-from_list_all}
 use Rattle.std.specs.Int.{IsInRange}
 use Rattle.std.specs.List.{join_with_byte, list_all}
-use Rattle.gd_base.specs.declared.event.Colour.{Colour}
-use Rattle.gd_base.specs.declared.event.Device.{Device}
-use Rattle.gd_base.specs.declared.event.Door.{Door}
+use Rattle.gd_base.specs.declared.game.Colour.{Colour}
+use Rattle.gd_base.specs.declared.device.Device.{Device}
+use Rattle.gd_base.specs.declared.condition.Door.{Door}
 use Rattle.gd_base.specs.declared.event.Event.{Event}
-use Rattle.gd_base.specs.declared.event.Game.{Game}
-use Rattle.gd_base.specs.declared.event.Tilt.{Tilt}
+use Rattle.gd_base.specs.declared.game.Game.{Game}
+use Rattle.gd_base.specs.declared.condition.Tilt.{Tilt}
 use Rattle.gd_base.specs.declared.step.What.{What}
 use Rattle.gd_base.specs.Chance.{has_bit}
 use Rattle.gd_base.specs.Names.{device_name, game_name}

@@ -1,7 +1,7 @@
 -- The grammar of a script: a table of the words of each item's line, and the ranges of its fields.
 use Rattle.std.specs.Prelude.{ℕ, ◌≡◌, ◌≢◌, ◌≤◌, List, [], ◌∷◌, All, codes, decimal, Option, Some, None}
 use Rattle.std.specs.List.{join_with_byte}
-use Rattle.gd_base.specs.declared.event.Device.{Device}
+use Rattle.gd_base.specs.declared.device.Device.{Device}
 use Rattle.gd_base.specs.declared.event.Event.{Event}
 use Rattle.gd_base.specs.declared.step.What.{What}
 use Rattle.gd_base.specs.Names.{device_name, game_name, colour_name}

@@ -1,7 +1,7 @@
 -- The words of a script that name a value of an enum. Devices, games and colours have the names of gd_base.
 use Rattle.std.specs.Prelude.{ℕ, List, codes}
-use Rattle.gd_base.specs.declared.event.Door.{Door}
-use Rattle.gd_base.specs.declared.event.Tilt.{Tilt}
+use Rattle.gd_base.specs.declared.condition.Door.{Door}
+use Rattle.gd_base.specs.declared.condition.Tilt.{Tilt}
 use Rattle.gd_base.specs.declared.step.What.{What}
 use Rattle.gd_disk.specs.declared.disk.CutUnit.{CutUnit}
 use Rattle.gd_script.specs.declared.item.OrderWord.{OrderWord}

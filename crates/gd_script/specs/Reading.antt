@@ -3,7 +3,7 @@ use Rattle.std.specs.Prelude.{ℕ, ◌+◌, ◌*◌, ◌==◌, nat_le, Bool, tru
 use Rattle.std.specs.List.{list_all, slice_split}
 use Rattle.std.specs.Str.{bytes_eq}
 use Rattle.std.specs.Str.Parse.{digits_value}
-use Rattle.gd_base.specs.declared.event.Colour.{Colour}
+use Rattle.gd_base.specs.declared.game.Colour.{Colour}
 use Rattle.gd_base.specs.declared.event.Event.{Event}
 use Rattle.gd_base.specs.declared.step.What.{What}
 use Rattle.gd_base.specs.Names.{device_name, game_name}

@@ -2,7 +2,7 @@
 use Rattle.std.proofs.Common.{◌≡◌, ◌∙◌, ap, refl, ℕ, ◌+◌, ◌≤◌, ◌<◌, ◌==◌, subst, inl, inr, Bool, true, [], ◌∷◌, arith, Option, Some}
 use Rattle.std.proofs.lemmas.Bool.Decides.{nat_tests}
 use Rattle.std.specs.Prelude.{codes}
-use Rattle.gd_base.specs.declared.event.Reply.{Reply}
+use Rattle.gd_base.specs.declared.refusal.Reply.{Reply}
 use Rattle.gd_base.specs.declared.step.Numbered.{Numbered}
 use Rattle.gd_base.specs.declared.step.Stepped.{Stepped}
 use Rattle.gd_base.specs.Answer.{answer, after_answer, entry_of, is_new}

@@ -1,8 +1,8 @@
 -- What is kept of the devices.
 use Rattle.std.proofs.Common.{◌≡◌, refl, ℕ, zero, suc, ◌+◌, ◌≤◌, ◌==◌, List, [], ◌∷◌, length, map, sum, get_or, slice_set, arith, Option, Some, None}
 use Rattle.std.specs.List.{list_all}
-use Rattle.gd_base.specs.declared.event.Device.{Device}
-use Rattle.gd_base.specs.declared.event.Reply.{Reply}
+use Rattle.gd_base.specs.declared.device.Device.{Device}
+use Rattle.gd_base.specs.declared.refusal.Reply.{Reply}
 use Rattle.gd_base.specs.declared.play.PlayRecord.{PlayRecord}
 use Rattle.gd_base.specs.declared.setup.Setup.{Setup}
 use Rattle.gd_base.specs.Devices.{kept_at}

@@ -2,7 +2,7 @@
 use Rattle.std.proofs.Common.{◌≡◌, ℕ, ◌+◌, ◌<◌, ◌^◌, ◌==◌, nat_le, nat_lt, List, [], ◌∷◌, ◌++◌, Bool, true, false, None, Some, refl, sym, ap, subst, ◌∙◌, arith, if◌then◌else◌, codes}
 use Rattle.std.proofs.lemmas.Bool.Decides.{nat_tests}
 use Rattle.std.specs.declared.option.Option.{Option}
-use Rattle.gd_base.specs.declared.event.Device.{Device}
+use Rattle.gd_base.specs.declared.device.Device.{Device}
 use Rattle.gd_base.specs.declared.step.Numbered.{Numbered}
 use Rattle.gd_base.specs.declared.step.Stepped.{Stepped}
 use Rattle.gd_base.specs.Answer.{answer, entry_of, is_full}

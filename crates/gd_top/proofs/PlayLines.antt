@@ -1,7 +1,7 @@
 -- The lines of an open play of the reels.
 use Rattle.std.proofs.Common.{◌≡◌, ◌∙◌, ap, sym, ℕ, ◌==◌, true, ◌&&◌, List, [], ◌++◌, codes, append_assoc, append-nil, length, decimal, flat_map}
 use Rattle.std.specs.Fmt.{digits}
-use Rattle.gd_base.specs.declared.event.Game.{Game}
+use Rattle.gd_base.specs.declared.game.Game.{Game}
 use Rattle.gd_base.specs.declared.play.PlayRecord.{PlayRecord}
 use Rattle.gd_base.specs.declared.setup.Setup.{Setup}
 use Rattle.gd_base.specs.Chance.{window}

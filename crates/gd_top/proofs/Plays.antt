@@ -1,11 +1,11 @@
 -- What the player's events make of the books and of the open play is what they make of the view.
 use Rattle.std.proofs.Common.{◌≡◌, ◌∙◌, ap, sym, subst, refl, ℕ, ◌≤◌, ◌==◌, ◌&&◌, ◌||◌, List, [], ◌∷◌, Bor, nat_lt, is_none, option_copied, Bool, true, false, if◌then◌else◌, nat_le, is_some, arith, Option, Some, None, Result, Ok, Err, OnOk, OnErr, IfOk, IfSome}
-use Rattle.gd_base.specs.declared.event.Condition.{Condition}
+use Rattle.gd_base.specs.declared.condition.Condition.{Condition}
 use Rattle.gd_base.specs.declared.event.Event.{Event}
-use Rattle.gd_base.specs.declared.event.Game.{Game}
-use Rattle.gd_base.specs.declared.event.Meter.{Meter}
-use Rattle.gd_base.specs.declared.event.Refusal.{Refusal}
-use Rattle.gd_base.specs.declared.event.Reply.{Reply}
+use Rattle.gd_base.specs.declared.game.Game.{Game}
+use Rattle.gd_base.specs.declared.meter.Meter.{Meter}
+use Rattle.gd_base.specs.declared.refusal.Refusal.{Refusal}
+use Rattle.gd_base.specs.declared.refusal.Reply.{Reply}
 use Rattle.gd_base.specs.declared.play.Choices.{Choices}
 use Rattle.gd_base.specs.declared.play.PlayRecord.{PlayRecord}
 use Rattle.gd_base.specs.declared.play.StageOpen.{StageOpen}

@@ -2,9 +2,9 @@
 use Rattle.std.specs.Prelude.{◌≡◌, ℕ, ◌==◌, if◌then◌else◌, List, [], ◌∷◌, ◌++◌, map, replicate, codes, refl, None, Some}
 use Rattle.std.specs.Fmt.{digits}
 use Rattle.std.specs.declared.option.Option.{Option}
-use Rattle.gd_base.specs.declared.event.Device.{Device}
+use Rattle.gd_base.specs.declared.device.Device.{Device}
 use Rattle.gd_base.specs.declared.event.Event.{Event}
-use Rattle.gd_base.specs.declared.event.Game.TheVariants as Game
+use Rattle.gd_base.specs.declared.game.Game.TheVariants as Game
 use Rattle.gd_base.specs.declared.step.What.{What}
 use Rattle.gd_base.specs.Answer.{answer}
 use Rattle.gd_base.specs.BuiltIn.{built_in_setup}

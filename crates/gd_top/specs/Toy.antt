@@ -1,9 +1,9 @@
 -- A machine that takes bills of 500, to try the definition on.
 use Rattle.std.specs.Prelude.{◌≡◌, refl, ℕ, ◌+◌, ◌==◌, ◌&&◌, true, false, if◌then◌else◌, ◌++◌, codes, decimal, replicate}
-use Rattle.gd_base.specs.declared.event.Device.{Device}
+use Rattle.gd_base.specs.declared.device.Device.{Device}
 use Rattle.gd_base.specs.declared.event.Event.{Event}
-use Rattle.gd_base.specs.declared.event.Refusal.{Refusal}
-use Rattle.gd_base.specs.declared.event.Reply.{Reply}
+use Rattle.gd_base.specs.declared.refusal.Refusal.{Refusal}
+use Rattle.gd_base.specs.declared.refusal.Reply.{Reply}
 use Rattle.gd_base.specs.Machine.{Machine, Blocks}
 use Rattle.gd_base.specs.Spelled.{Unreadable}
 use Rattle.gd_base.specs.TheMachine.{number_itself, both_hold}

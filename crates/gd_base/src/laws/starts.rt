@@ -2,7 +2,7 @@
 
 ghost use Rattle.std.specs.Prelude.{◌≡◌, false};
 ghost use Rattle.gd_base.specs.declared.event.Event.{Event};
-ghost use Rattle.gd_base.specs.declared.event.Reply.{Reply};
+ghost use Rattle.gd_base.specs.declared.refusal.Reply.{Reply};
 ghost use Rattle.gd_base.specs.declared.setup.Setup.{Setup};
 ghost use Rattle.gd_base.specs.Draws.{is_drawn};
 ghost use Rattle.gd_base.specs.Rule.{rule};

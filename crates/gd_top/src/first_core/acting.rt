@@ -2,8 +2,8 @@
 
 ghost use Rattle.std.specs.Prelude.{◌≡◌, ◌≤◌, ◌<◌, ◌^◌, slice_index, ℕ, List, IfOk, OnOk, OnErr, IsSome, IfSome, IsTrue, Option, Some, None};
 ghost use Rattle.gd_base.specs.declared.event.Event.{Event};
-ghost use Rattle.gd_base.specs.declared.event.Game.{Game};
-ghost use Rattle.gd_base.specs.declared.event.Meter.{Meter};
+ghost use Rattle.gd_base.specs.declared.game.Game.{Game};
+ghost use Rattle.gd_base.specs.declared.meter.Meter.{Meter};
 ghost use Rattle.gd_base.specs.declared.play.PlayRecord.{PlayRecord};
 ghost use Rattle.gd_base.specs.Answer.{IsDraw};
 ghost use Rattle.gd_base.specs.Draws.{next_index};

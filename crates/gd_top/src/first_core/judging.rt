@@ -2,7 +2,7 @@
 
 ghost use Rattle.std.specs.Prelude.{◌≡◌, ◌<◌, ◌*◌, ◌^◌, is_some, Option};
 ghost use Rattle.gd_base.specs.declared.event.Event.{Event};
-ghost use Rattle.gd_base.specs.declared.event.Game.{Game};
+ghost use Rattle.gd_base.specs.declared.game.Game.{Game};
 ghost use Rattle.gd_base.specs.declared.play.PlayRecord.{PlayRecord};
 ghost use Rattle.gd_base.specs.Credit.{wager as wager_of};
 ghost use Rattle.gd_base.specs.Rule.{is_bill, rule};

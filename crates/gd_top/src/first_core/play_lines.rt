@@ -3,7 +3,7 @@
 ghost use Rattle.std.specs.Prelude.{◌≡◌, ◌≤◌, ◌+◌, ◌++◌, ◌∷◌, [], IsTrue, codes, length, option_copied};
 ghost use Rattle.std.specs.List.{list_all};
 ghost use Rattle.arrayvec.specs.ArrayString.{array_string_len};
-ghost use Rattle.gd_base.specs.declared.event.Game.{Game};
+ghost use Rattle.gd_base.specs.declared.game.Game.{Game};
 ghost use Rattle.gd_base.specs.Rounds.{choices_of};
 ghost use Rattle.gd_base.specs.SetupRules.{are_strips, is_letter};
 ghost use Rattle.gd_base.specs.Spelling.{is_choice_value, open_is};

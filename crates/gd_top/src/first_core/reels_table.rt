@@ -1,7 +1,7 @@
 //! The paytable of the reels.
 
 ghost use Rattle.std.specs.Prelude.{◌≡◌, ◌≤◌, ◌*◌, IsTrue, IfSome};
-ghost use Rattle.gd_base.specs.declared.event.Game.{Game};
+ghost use Rattle.gd_base.specs.declared.game.Game.{Game};
 ghost use Rattle.gd_base.specs.Chance.{line_wins as line_wins_of};
 ghost use Rattle.gd_base.specs.Stage.{base_win as base_win_of, stage, is_bet, is_choice, are_choices};
 

@@ -1,7 +1,7 @@
 use Rattle.std.proofs.Common.{◌≡◌, ◌∙◌, ap, sym, subst, OnOk}
-use Rattle.gd_base.specs.declared.event.Condition.{Condition}
+use Rattle.gd_base.specs.declared.condition.Condition.{Condition}
 use Rattle.gd_base.specs.declared.event.Event.{Event}
-use Rattle.gd_base.specs.declared.event.Refusal.{Refusal}
+use Rattle.gd_base.specs.declared.refusal.Refusal.{Refusal}
 use Rattle.gd_base.specs.declared.setup.Setup.{Setup}
 use Rattle.gd_play.specs.Judging.{refusal, judged}
 use Rattle.gd_play.specs.Moving.{phase_after, play_after}

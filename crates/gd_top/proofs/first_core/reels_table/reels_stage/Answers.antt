@@ -1,5 +1,5 @@
 use Rattle.std.proofs.Common.{◌&&◌, ◌^◌, nat_lt}
-use Rattle.gd_base.specs.declared.event.Game.{Game}
+use Rattle.gd_base.specs.declared.game.Game.{Game}
 use Rattle.gd_base.proofs.Rules.{both}
 use Rattle.gd_base.specs.Stage.{is_choice, could_turn}
 use Rattle.gd_play.proofs.Turns.{at_most_five}
