@@ -2,8 +2,8 @@
 
 ghost use Rattle.std.specs.Prelude.{◌≡◌, ◌≤◌, ◌<◌, length, IfSome, Some};
 ghost use Rattle.gd_base.specs.declared.condition.Condition.{Condition};
-ghost use Rattle.gd_base.specs.Names.{condition_name, door_name, tilt_name};
-ghost use Rattle.gd_base.specs.Numbers.{condition_number, door_condition, door_place, tilt_condition, tilt_place};
+ghost use Rattle.gd_base.specs.Texts.Names.{condition_name, door_name, tilt_name};
+ghost use Rattle.gd_base.specs.Histories.Numbers.{condition_number, door_condition, door_place, tilt_condition, tilt_place};
 
 /// A door of the cabinet. While one is open the machine is locked up.
 #[derive(Clone, Copy, PartialEq, Eq, Debug)]

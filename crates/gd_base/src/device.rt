@@ -1,8 +1,8 @@
 //! The devices that tell events.
 
 ghost use Rattle.std.specs.Prelude.{◌≡◌, ◌≤◌, ◌<◌, length};
-ghost use Rattle.gd_base.specs.Names.{device_name};
-ghost use Rattle.gd_base.specs.Numbers.{device_place};
+ghost use Rattle.gd_base.specs.Texts.Names.{device_name};
+ghost use Rattle.gd_base.specs.Histories.Numbers.{device_place};
 
 /// Who tells an event. Each device numbers its events from 1.
 #[derive(Clone, Copy, PartialEq, Eq, Debug)]

@@ -1,7 +1,7 @@
 //! Where the random words come from.
 
 ghost use Rattle.std.specs.Prelude.{◌≡◌, ℕ, List};
-ghost use Rattle.gd_base.specs.Blocks.{AreBlocks};
+ghost use Rattle.gd_base.specs.Outside.Blocks.{AreBlocks};
 
 use crate::play::Block;
 

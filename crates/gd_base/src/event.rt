@@ -50,7 +50,7 @@ pub enum Event {
 
 impl Event {
     ghost use Rattle.std.specs.Prelude.{◌≡◌};
-    ghost use Rattle.gd_base.specs.Entry.{device_of};
+    ghost use Rattle.gd_base.specs.Histories.Entry.{device_of};
 
     /// The device that tells this event.
     pub fn device(&self) -> Device

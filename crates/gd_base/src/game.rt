@@ -2,8 +2,8 @@
 
 ghost use Rattle.std.specs.Prelude.{◌≡◌, ◌≤◌, length, IfSome, Some};
 ghost use Rattle.gd_base.specs.declared.game.Game.{Game};
-ghost use Rattle.gd_base.specs.Names.{game_name};
-ghost use Rattle.gd_base.specs.Numbers.{game_number};
+ghost use Rattle.gd_base.specs.Texts.Names.{game_name};
+ghost use Rattle.gd_base.specs.Histories.Numbers.{game_number};
 
 /// A game. Poker is five-card draw.
 #[derive(Clone, Copy, PartialEq, Eq, Debug)]

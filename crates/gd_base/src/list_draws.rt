@@ -1,7 +1,7 @@
 //! Random words from a list.
 
 ghost use Rattle.std.specs.Prelude.{◌≡◌, ℕ};
-ghost use Rattle.gd_base.specs.Blocks.{AreListed};
+ghost use Rattle.gd_base.specs.Outside.Blocks.{AreListed};
 
 use crate::play::Block;
 

@@ -2,14 +2,14 @@
 
 ghost use Rattle.std.specs.Prelude.{◌≡◌, ◌^◌, ℕ, IsTrue, nat_lt};
 ghost use Rattle.std.specs.List.{list_all};
-ghost use Rattle.gd_base.specs.Blocks.{AreListed};
+ghost use Rattle.gd_base.specs.Outside.Blocks.{AreListed};
 
 use crate::draws::Draws;
 use crate::list_draws::ListDraws;
 use crate::play::Block;
 
 impl ListDraws {
-    ghost use Rattle.gd_base.specs.Outside.{listed};
+    ghost use Rattle.gd_base.specs.Outside.InMemory.{listed};
 
     /// These blocks, of which the first has index 0.
     pub fn of(blocks: Vec<Block>) -> Self
@@ -21,8 +21,8 @@ impl ListDraws {
 }
 
 impl Draws for ListDraws {
-    ghost use Rattle.gd_base.specs.Outside.{listed};
-    ghost use Rattle.gd_base.specs.Blocks.{listed_are};
+    ghost use Rattle.gd_base.specs.Outside.InMemory.{listed};
+    ghost use Rattle.gd_base.specs.Outside.Blocks.{listed_are};
 
     ghost block_of = { λ d. listed d.blocks.items };
 

@@ -2,10 +2,10 @@
 
 ghost use Rattle.std.specs.Prelude.{◌≡◌, ◌≤◌, ℕ, List, length, Option};
 ghost use Rattle.std.specs.Coded.{Coded};
-ghost use Rattle.gd_base.specs.Answer.{answer, after_answer, is_draw_needed, IsDrawFor};
-ghost use Rattle.gd_base.specs.Machine.{Machine};
-ghost use Rattle.gd_base.specs.Opens.{view_loaded};
-ghost use Rattle.gd_base.specs.Spelled.{Spelled, Shows, loaded};
+ghost use Rattle.gd_base.specs.Judging.Answer.{answer, after_answer, is_draw_needed, IsDrawFor};
+ghost use Rattle.gd_base.specs.Judging.Machine.{Machine};
+ghost use Rattle.gd_base.specs.Payloads.LoadedView.{view_loaded};
+ghost use Rattle.gd_base.specs.Payloads.Spelled.{Spelled, Shows, loaded};
 
 use crate::device::Device;
 use crate::layout::PAYLOAD_LEN;

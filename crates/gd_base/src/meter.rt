@@ -1,8 +1,8 @@
 //! The sixteen meters.
 
 ghost use Rattle.std.specs.Prelude.{◌≡◌, ◌≤◌, ◌<◌, length};
-ghost use Rattle.gd_base.specs.Names.{meter_name};
-ghost use Rattle.gd_base.specs.Numbers.{meter_place};
+ghost use Rattle.gd_base.specs.Texts.Names.{meter_name};
+ghost use Rattle.gd_base.specs.Histories.Numbers.{meter_place};
 
 /// A meter: nine amounts in cents, then seven counts. The whole total is kept, and modulo 10^10 is shown.
 #[derive(Clone, Copy, PartialEq, Eq, Debug)]

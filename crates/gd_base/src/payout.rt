@@ -2,7 +2,7 @@
 
 ghost use Rattle.std.specs.Prelude.{◌≡◌, IfSome, Some};
 ghost use Rattle.gd_base.specs.declared.payout.OrderKind.{OrderKind};
-ghost use Rattle.gd_base.specs.Numbers.{kind_number};
+ghost use Rattle.gd_base.specs.Histories.Numbers.{kind_number};
 
 /// The device that carries an order out.
 #[derive(Clone, Copy, PartialEq, Eq, Debug)]

@@ -1,8 +1,8 @@
 //! How an event is judged.
 
 ghost use Rattle.std.specs.Prelude.{◌≡◌, ◌≤◌, length};
-ghost use Rattle.gd_base.specs.Names.{refusal_name};
-ghost use Rattle.gd_base.specs.Numbers.{refusal_condition, refusal_number};
+ghost use Rattle.gd_base.specs.Texts.Names.{refusal_name};
+ghost use Rattle.gd_base.specs.Histories.Numbers.{refusal_condition, refusal_number};
 
 use crate::condition::Condition;
 

@@ -1,7 +1,7 @@
 //! Random words from a seed.
 
 ghost use Rattle.std.specs.Prelude.{◌≡◌};
-ghost use Rattle.gd_base.specs.KeyStream.{key_bytes, seeded};
+ghost use Rattle.gd_base.specs.Outside.KeyStream.{key_bytes, seeded};
 
 use crate::draws::Draws;
 use crate::play::Block;
@@ -38,7 +38,7 @@ impl ChaChaDraws {
 }
 
 impl Draws for ChaChaDraws {
-    ghost use Rattle.gd_base.specs.Blocks.{seeded_are};
+    ghost use Rattle.gd_base.specs.Outside.Blocks.{seeded_are};
 
     ghost block_of = { seeded };
 

@@ -2,7 +2,7 @@
 ghost use Rattle.std.specs.Prelude.{◌≡◌, ◌≤◌, ◌+◌, ◌-◌, ◌++◌, ℕ, List, [], Some, length, IfOk, take, IsOk, ◌↔◌};
 ghost use Rattle.std.specs.declared.option.Option.{Option};
 ghost use Rattle.std.specs.Io.KnownBytes.{Appends};
-ghost use Rattle.gd_base.specs.Causes.{HasCause, GivesFront};
+ghost use Rattle.gd_base.specs.Outside.Causes.{HasCause, GivesFront};
 
 use crate::source::Failed;
 use std::alloc::{AllocError, Global};
@@ -80,7 +80,7 @@ pub struct MemorySink {
 
 impl Model for MemorySink {
     ghost use Rattle.std.specs.Prelude.{◌≤◌, vec_len, vec_capacity, ◌-◌};
-    ghost use Rattle.gd_base.specs.Outside.{SinkState};
+    ghost use Rattle.gd_base.specs.Outside.InMemory.{SinkState};
 
     ghost Value = { SinkState };
 

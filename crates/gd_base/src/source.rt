@@ -3,8 +3,8 @@ ghost use Rattle.std.specs.Prelude.{◌≡◌, ◌≤◌, ◌<◌, ◌-◌, ◌+
 ghost use Rattle.std.specs.declared.option.Option.{Option};
 ghost use Rattle.std.specs.Io.{ReadsAtMost};
 ghost use Rattle.std.specs.Io.KnownBytes.{ReadConsumes};
-ghost use Rattle.gd_base.specs.Causes.{HasCause};
-ghost use Rattle.gd_base.specs.Outside.{call_more};
+ghost use Rattle.gd_base.specs.Outside.Causes.{HasCause};
+ghost use Rattle.gd_base.specs.Outside.InMemory.{call_more};
 
 use std::io::Read;
 use std::marker::Model;
@@ -73,7 +73,7 @@ pub struct MemorySource {
 
 impl Model for MemorySource {
     ghost use Rattle.std.specs.Prelude.{drop, ◌≤◌, vec_len};
-    ghost use Rattle.gd_base.specs.Outside.{SourceState};
+    ghost use Rattle.gd_base.specs.Outside.InMemory.{SourceState};
 
     ghost Value = { SourceState };
 

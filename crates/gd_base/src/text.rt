@@ -2,10 +2,10 @@
 
 ghost use Rattle.std.specs.Prelude.{◌≡◌, ◌≤◌, ◌<◌, ◌+◌, ◌^◌, ◌++◌, [], ◌∷◌, codes, length, replicate, decimal};
 ghost use Rattle.arrayvec.specs.ArrayString.{array_string_len};
-ghost use Rattle.gd_base.specs.Meters.{meters};
-ghost use Rattle.gd_base.specs.Names.{refusal_text, reply_text};
-ghost use Rattle.gd_base.specs.Numbers.{refusal_number};
-ghost use Rattle.gd_base.specs.Texts.{padded, meter_line, meter_lines};
+ghost use Rattle.gd_base.specs.Histories.Meters.{meters};
+ghost use Rattle.gd_base.specs.Texts.Names.{refusal_text, reply_text};
+ghost use Rattle.gd_base.specs.Histories.Numbers.{refusal_number};
+ghost use Rattle.gd_base.specs.Texts.OfViews.{padded, meter_line, meter_lines};
 
 use crate::meter::{METERS, Meter};
 use crate::refusal::{Refusal, Reply};

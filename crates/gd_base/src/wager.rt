@@ -5,7 +5,7 @@ ghost use Rattle.std.specs.Prelude.{◌≡◌};
 use crate::setup::Setup;
 
 impl Setup {
-    ghost use Rattle.gd_base.specs.Credit.{wager};
+    ghost use Rattle.gd_base.specs.Histories.Credit.{wager};
 
     /// The cents of a bet in credits.
     pub fn wager(&self, bet: u8) -> u32

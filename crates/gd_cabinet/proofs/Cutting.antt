@@ -3,9 +3,9 @@ use Rattle.std.proofs.Common.{◌≡◌, ◌∙◌, sym, ap, subst, inr, arith, 
 use Rattle.gd_disk.specs.Disk.{DiskState, IfTold, Rose}
 use Rattle.gd_disk.specs.Runs.{CutsLeft, CutOrFaultIn}
 use Rattle.gd_disk.proofs.Cuts.{no_call, left_then, failed_then, failed_more}
-use Rattle.gd_base.specs.Answer.{answer, is_new}
-use Rattle.gd_base.specs.Machine.{Machine}
-use Rattle.gd_base.specs.Spelled.{Shows}
+use Rattle.gd_base.specs.Judging.Answer.{answer, is_new}
+use Rattle.gd_base.specs.Judging.Machine.{Machine}
+use Rattle.gd_base.specs.Payloads.Spelled.{Shows}
 use Rattle.gd_store.specs.Copy.{boots, found_in}
 use Rattle.gd_store.specs.Booting.{IsFound}
 use Rattle.gd_store.specs.Opening.{repairs_of}

@@ -3,9 +3,9 @@ use Rattle.std.proofs.Common.{◌≡◌, ◌∙◌, ap, subst, inl, inr, ⊎_eli
 use Rattle.gd_disk.specs.Disk.{DiskState, IfTold, Stands}
 use Rattle.gd_disk.specs.Runs.{LeavesOnly}
 use Rattle.gd_disk.proofs.Runs.{and_then, at_end, weaker}
-use Rattle.gd_base.specs.Machine.{Machine, Blocks}
-use Rattle.gd_base.specs.Opens.{opens}
-use Rattle.gd_base.specs.Spelled.{Shows}
+use Rattle.gd_base.specs.Judging.Machine.{Machine, Blocks}
+use Rattle.gd_base.specs.Payloads.LoadedView.{opens}
+use Rattle.gd_base.specs.Payloads.Spelled.{Shows}
 use Rattle.gd_store.specs.Writing.{KeepsBoot, From}
 use Rattle.gd_store.specs.declared.layout.TheConstants.{LAYOUT}
 use Rattle.gd_cabinet.specs.Shown.{shows, spelled_boot, ShowsEither}

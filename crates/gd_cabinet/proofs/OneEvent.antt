@@ -6,10 +6,10 @@ use Rattle.gd_disk.specs.CutRuns.{RunOf}
 use Rattle.gd_disk.proofs.Cuts.{none_made}
 use Rattle.gd_disk.proofs.Runs.{started, weaker}
 use Rattle.gd_disk.proofs.WholeRuns.{no_syncs, run_fails}
-use Rattle.gd_base.specs.Answer.{answer, after_answer, is_new, draw_for}
-use Rattle.gd_base.specs.Legal.{draw_of}
-use Rattle.gd_base.specs.Machine.{Machine, Blocks}
-use Rattle.gd_base.specs.Spelled.{Shows}
+use Rattle.gd_base.specs.Judging.Answer.{answer, after_answer, is_new, draw_for}
+use Rattle.gd_base.specs.Judging.Legal.{draw_of}
+use Rattle.gd_base.specs.Judging.Machine.{Machine, Blocks}
+use Rattle.gd_base.specs.Payloads.Spelled.{Shows}
 use Rattle.gd_base.specs.declared.step.Numbered.{Numbered}
 use Rattle.gd_base.specs.declared.step.Stepped.{Stepped}
 use Rattle.gd_store.specs.Copy.{boots, HoldsBoth}

@@ -1,9 +1,9 @@
 -- What an image shows that boots to a payload which was kept or loaded.
 use Rattle.std.proofs.Common.{◌≡◌, ◌∙◌, sym, ap, subst, arith, ℕ, List, Option, Some, None, refl}
 use Rattle.std.proofs.lemmas.Bool.Decides.{nat_tests}
-use Rattle.gd_base.specs.Machine.{Machine}
-use Rattle.gd_base.specs.Opens.{opens, at_sequence, view_loaded}
-use Rattle.gd_base.specs.Spelled.{Spelled, Unreadable, Foreign, Shows, loaded}
+use Rattle.gd_base.specs.Judging.Machine.{Machine}
+use Rattle.gd_base.specs.Payloads.LoadedView.{opens, at_sequence, view_loaded}
+use Rattle.gd_base.specs.Payloads.Spelled.{Spelled, Unreadable, Foreign, Shows, loaded}
 use Rattle.gd_base.specs.declared.step.Loaded.{Loaded}
 use Rattle.gd_disk.specs.Disk.{IfTold}
 use Rattle.gd_store.specs.Booting.{IsFound}

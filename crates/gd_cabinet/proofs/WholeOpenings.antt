@@ -1,10 +1,10 @@
 -- What an opening leaves of the syncs, the cuts and the faults, and exactly where each answer comes.
 use Rattle.std.proofs.Common.{◌≡◌, ◌∙◌, sym, ap, subst, refl, arith, ◌+◌, ◌≤◌, ◌^◌, true, false, Bool, List, ℕ, Option, Some, None, Err}
 use Rattle.std.proofs.lemmas.Bool.Decides.{nat_tests}
-use Rattle.gd_base.specs.Answer.{answer, after_answer, is_full, is_new}
-use Rattle.gd_base.specs.Legal.{draw_of}
-use Rattle.gd_base.specs.Machine.{Machine, Blocks}
-use Rattle.gd_base.specs.Spelled.{Shows}
+use Rattle.gd_base.specs.Judging.Answer.{answer, after_answer, is_full, is_new}
+use Rattle.gd_base.specs.Judging.Legal.{draw_of}
+use Rattle.gd_base.specs.Judging.Machine.{Machine, Blocks}
+use Rattle.gd_base.specs.Payloads.Spelled.{Shows}
 use Rattle.gd_disk.specs.CutRuns.{IsWhole, RunOf}
 use Rattle.gd_disk.specs.Disk.{DiskState, IfTold}
 use Rattle.gd_disk.proofs.WholeRuns.{run_on, run_fails, after_none, whole_then}
@@ -14,7 +14,7 @@ use Rattle.gd_store.specs.Opening.{repairs_of}
 use Rattle.gd_store.specs.Repair.{Repair, NoRepair, RepairA, RepairB, repaired, syncs_of_repair}
 use Rattle.gd_store.specs.declared.found.Found.{Found}
 use Rattle.gd_store.specs.declared.layout.TheConstants.{LAYOUT}
-use Rattle.gd_base.proofs.Answer.{answer_full}
+use Rattle.gd_base.proofs.AnswerLemmas.Answer.{answer_full}
 use Rattle.gd_cabinet.specs.Answered.{syncs_of}
 use Rattle.gd_cabinet.specs.Opened.{OpenedAs, OnReady}
 use Rattle.gd_cabinet.specs.Opening.{opening_syncs, start_of, started}

@@ -2,9 +2,9 @@
 use Rattle.std.specs.Prelude.{◌≡◌, ℕ, ◌+◌, Bool, true, false}
 use Rattle.gd_disk.specs.Disk.{DiskState}
 use Rattle.gd_disk.specs.Runs.{CutsLeft}
-use Rattle.gd_base.specs.Answer.{answer, after_answer}
-use Rattle.gd_base.specs.Legal.{draw_of}
-use Rattle.gd_base.specs.Machine.{Machine, Blocks}
+use Rattle.gd_base.specs.Judging.Answer.{answer, after_answer}
+use Rattle.gd_base.specs.Judging.Legal.{draw_of}
+use Rattle.gd_base.specs.Judging.Machine.{Machine, Blocks}
 use Rattle.gd_base.specs.declared.step.Numbered.{Numbered}
 use Rattle.gd_base.specs.declared.step.Stepped.{Stepped}
 use Rattle.gd_cabinet.specs.declared.answer.Answer.{Answer}

@@ -1,8 +1,8 @@
 -- What the opening of a memory answers.
 use Rattle.std.specs.Prelude.{◌≡◌, ℕ, List, Some, None, IfSome}
-use Rattle.gd_base.specs.Machine.{Machine, Blocks}
-use Rattle.gd_base.specs.Opens.{at_sequence}
-use Rattle.gd_base.specs.Spelled.{Shows, Foreign, Unreadable}
+use Rattle.gd_base.specs.Judging.Machine.{Machine, Blocks}
+use Rattle.gd_base.specs.Payloads.LoadedView.{at_sequence}
+use Rattle.gd_base.specs.Payloads.Spelled.{Shows, Foreign, Unreadable}
 use Rattle.gd_store.specs.Copy.{boots, found_in}
 use Rattle.gd_store.specs.declared.layout.TheConstants.{LAYOUT}
 use Rattle.gd_store.specs.declared.found.Found.{Found}

@@ -1,9 +1,9 @@
 -- What the opening of a memory leaves at each moment, and how many syncs it makes.
 use Rattle.std.specs.Prelude.{◌≡◌, ◌⊎◌, ℕ, ◌+◌, List}
 use Rattle.gd_disk.specs.Disk.{DiskState, IfTold}
-use Rattle.gd_base.specs.Answer.{answer, is_new}
-use Rattle.gd_base.specs.Machine.{Machine, Blocks}
-use Rattle.gd_base.specs.Spelled.{Spelled, Shows, Foreign, Unreadable}
+use Rattle.gd_base.specs.Judging.Answer.{answer, is_new}
+use Rattle.gd_base.specs.Judging.Machine.{Machine, Blocks}
+use Rattle.gd_base.specs.Payloads.Spelled.{Spelled, Shows, Foreign, Unreadable}
 use Rattle.gd_base.specs.declared.device.Device.{Device}
 use Rattle.gd_base.specs.declared.event.Event.{Event}
 use Rattle.gd_base.specs.declared.step.Numbered.{Numbered}

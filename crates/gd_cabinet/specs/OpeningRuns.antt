@@ -1,7 +1,7 @@
 -- What an opening leaves of the syncs, the armed cuts and the faults, by what it answers.
 use Rattle.std.specs.Prelude.{◌≡◌, ◌≤◌, ◌+◌, ℕ, true, Some, None, Ok, Err}
-use Rattle.gd_base.specs.Machine.{Machine, Blocks}
-use Rattle.gd_base.specs.Spelled.{Shows}
+use Rattle.gd_base.specs.Judging.Machine.{Machine, Blocks}
+use Rattle.gd_base.specs.Payloads.Spelled.{Shows}
 use Rattle.gd_disk.specs.CutRuns.{IsWhole, RunOf}
 use Rattle.gd_disk.specs.Disk.{DiskState, Answers}
 use Rattle.gd_store.specs.Repair.{repaired, syncs_of_repair}

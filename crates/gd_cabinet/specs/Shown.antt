@@ -1,8 +1,8 @@
 -- What an image shows when it is opened.
 use Rattle.std.specs.Prelude.{◌≡◌, ◌⊎◌, ℕ, List, Option, Some, None}
-use Rattle.gd_base.specs.Machine.{Machine}
-use Rattle.gd_base.specs.Opens.{opens}
-use Rattle.gd_base.specs.Spelled.{Spelled, Shows}
+use Rattle.gd_base.specs.Judging.Machine.{Machine}
+use Rattle.gd_base.specs.Payloads.LoadedView.{opens}
+use Rattle.gd_base.specs.Payloads.Spelled.{Spelled, Shows}
 use Rattle.gd_store.specs.Copy.{boots, HoldsBoth}
 use Rattle.gd_store.specs.declared.layout.TheConstants.{LAYOUT}
 

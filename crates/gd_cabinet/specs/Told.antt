@@ -1,8 +1,8 @@
 -- What each answer of an opening tells, and exactly where it comes: by what loading the booted payload answers.
 use Rattle.std.specs.Prelude.{◌≡◌, ℕ, List, Option, Some, None}
-use Rattle.gd_base.specs.Machine.{Machine}
-use Rattle.gd_base.specs.Opens.{at_sequence}
-use Rattle.gd_base.specs.Spelled.{loaded}
+use Rattle.gd_base.specs.Judging.Machine.{Machine}
+use Rattle.gd_base.specs.Payloads.LoadedView.{at_sequence}
+use Rattle.gd_base.specs.Payloads.Spelled.{loaded}
 use Rattle.gd_base.specs.declared.step.Loaded.{Loaded}
 use Rattle.gd_cabinet.specs.declared.locked.Locked.{Locked}
 use Rattle.gd_cabinet.specs.declared.opened.CabinetOpened.{CabinetOpened}

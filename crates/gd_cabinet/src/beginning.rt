@@ -3,9 +3,9 @@ ghost use Rattle.std.specs.Prelude.{◌≡◌, ◌+◌, Err, IfOk, IfErr, List, 
 ghost use Rattle.gd_disk.specs.CutRuns.{IsWhole, RunOf};
 ghost use Rattle.gd_disk.specs.Disk.{Rose};
 ghost use Rattle.gd_disk.specs.Runs.{LeavesOnly, CutOrFaultIn};
-ghost use Rattle.gd_base.specs.Answer.{answer, is_new};
-ghost use Rattle.gd_base.specs.Opens.{at_sequence, view_loaded};
-ghost use Rattle.gd_base.specs.Spelled.{Shows, loaded};
+ghost use Rattle.gd_base.specs.Judging.Answer.{answer, is_new};
+ghost use Rattle.gd_base.specs.Payloads.LoadedView.{at_sequence, view_loaded};
+ghost use Rattle.gd_base.specs.Payloads.Spelled.{Shows, loaded};
 ghost use Rattle.gd_store.specs.Words.{store_disk, store_payload, store_sequence, store_stopped};
 ghost use Rattle.gd_cabinet.specs.Answered.{syncs_of, Made};
 ghost use Rattle.gd_cabinet.specs.Opening.{start_of, started};

@@ -3,8 +3,8 @@ ghost use Rattle.std.specs.Prelude.{◌≡◌, ◌⊎◌, ◌+◌, ◌<◌, ◌^
 ghost use Rattle.gd_disk.specs.Disk.{Answers, Rose};
 ghost use Rattle.gd_disk.specs.CutRuns.{RunOf};
 ghost use Rattle.gd_disk.specs.Runs.{LeavesOnly, CutsOfRun};
-ghost use Rattle.gd_base.specs.Answer.{answer, is_new, draw_for};
-ghost use Rattle.gd_base.specs.Spelled.{Shows};
+ghost use Rattle.gd_base.specs.Judging.Answer.{answer, is_new, draw_for};
+ghost use Rattle.gd_base.specs.Payloads.Spelled.{Shows};
 ghost use Rattle.gd_store.specs.Copy.{boots};
 ghost use Rattle.gd_store.specs.Words.{store_disk, store_payload, store_sequence, store_stopped};
 ghost use Rattle.gd_store.specs.Writing.{MadeSyncs};

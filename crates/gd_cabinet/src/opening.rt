@@ -2,8 +2,8 @@
 ghost use Rattle.std.specs.Prelude.{◌≡◌, ◌⊎◌, ◌+◌, Some, List, ℕ, true, false};
 ghost use Rattle.gd_disk.specs.Disk.{IfTold, IsSynced, Rose, Stands};
 ghost use Rattle.gd_disk.specs.Runs.{LeavesOnly, CutOrFaultIn};
-ghost use Rattle.gd_base.specs.Answer.{is_full};
-ghost use Rattle.gd_base.specs.Spelled.{Shows};
+ghost use Rattle.gd_base.specs.Judging.Answer.{is_full};
+ghost use Rattle.gd_base.specs.Payloads.Spelled.{Shows};
 ghost use Rattle.gd_store.specs.Copy.{boots, found_in};
 ghost use Rattle.gd_store.specs.Lost.{IsLost};
 ghost use Rattle.gd_store.specs.Opened.{IsOpenable};

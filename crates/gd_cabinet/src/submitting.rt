@@ -3,7 +3,7 @@ ghost use Rattle.std.specs.Prelude.{◌≡◌, ◌≢◌, ◌↔◌, OnOk, OnErr
 ghost use Rattle.gd_disk.specs.Disk.{Rose};
 ghost use Rattle.gd_disk.specs.CutRuns.{RunOf};
 ghost use Rattle.gd_disk.specs.Runs.{LeavesOnly, CutsOfRun};
-ghost use Rattle.gd_base.specs.Answer.{answer, is_new};
+ghost use Rattle.gd_base.specs.Judging.Answer.{answer, is_new};
 ghost use Rattle.gd_store.specs.Writing.{MadeSyncs};
 ghost use Rattle.gd_cabinet.specs.Answered.{answered, offered, syncs_of};
 ghost use Rattle.gd_cabinet.specs.Shown.{ShowsEither, IsInBoth};

@@ -3,8 +3,8 @@ ghost use Rattle.std.specs.Prelude.{◌≡◌, ◌≢◌, ◌+◌, ◌-◌, ◌�
 ghost use Rattle.std.specs.Coded.{coded_ℕ};
 ghost use Rattle.std.specs.Int.{w64, from_be_bytes};
 ghost use Rattle.gd_disk.specs.Disk.{IsSynced};
-ghost use Rattle.gd_base.specs.Spelled.{Shows, Foreign, Unreadable};
-ghost use Rattle.gd_base.specs.TheMachine.{number_itself};
+ghost use Rattle.gd_base.specs.Payloads.Spelled.{Shows, Foreign, Unreadable};
+ghost use Rattle.gd_base.specs.Judging.Product.{number_itself};
 ghost use Rattle.gd_base.specs.declared.refusal.Reply.{Reply};
 ghost use Rattle.gd_store.specs.Opened.{IsOpenable};
 

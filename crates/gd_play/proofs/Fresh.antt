@@ -1,12 +1,12 @@
 -- A pick or a hold is the first choice of its play.
 use Rattle.std.proofs.Common.{◌≡◌, ◌&&◌, ◌^◌, ℕ, zero, suc, true, nat_lt, nat_le, List, Option, Some, None, refl, ap, ◌∙◌, sym}
-use Rattle.gd_base.proofs.Rules.{both}
+use Rattle.gd_base.proofs.BoolTests.{both}
 use Rattle.gd_base.specs.declared.event.Event.{Event}
 use Rattle.gd_base.specs.declared.game.Game.{Game}
 use Rattle.gd_base.specs.declared.play.Choices.{Choices}
 use Rattle.gd_base.specs.declared.play.StageOpen.{StageOpen}
 use Rattle.gd_base.specs.declared.setup.Setup.{Setup}
-use Rattle.gd_base.specs.Stage.{stage, stage_with, base_win, has_pick, first_stage, is_phase, is_choice, could_turn, are_choices}
+use Rattle.gd_base.specs.Games.Stage.{stage, stage_with, base_win, has_pick, first_stage, is_phase, is_choice, could_turn, are_choices}
 use Rattle.gd_play.proofs.Phases.{one_phase, and_true, pick_open, hold_open, pick_waits}
 use Rattle.gd_play.specs.Judging.{is_choosing, choice_in, asks_for}
 

@@ -2,16 +2,16 @@
 use Rattle.std.specs.Prelude.{◌≡◌, ◌==◌, ◌&&◌, ◌<◌, ◌^◌, ℕ, nat_lt, Bool, true, false, not, if◌then◌else◌, Option, Some, None, refl}
 use Rattle.std.proofs.Common.{ap, ◌∙◌, sym}
 use Rattle.std.proofs.lemmas.Bool.{eqb-true}
-use Rattle.gd_base.proofs.Rules.{both, all_told}
+use Rattle.gd_base.proofs.BoolTests.{both, all_told}
 use Rattle.gd_base.specs.declared.event.Event.{Event}
 use Rattle.gd_base.specs.declared.game.Game.{Game}
 use Rattle.gd_base.specs.declared.play.PlayRecord.{PlayRecord}
 use Rattle.gd_base.specs.declared.play.StageOpen.{StageOpen}
 use Rattle.gd_base.specs.declared.setup.Setup.{Setup}
-use Rattle.gd_base.specs.Credit.{wager}
-use Rattle.gd_base.specs.Rounds.{choices_of}
-use Rattle.gd_base.specs.Spelling.{open_is, record_rules, is_play_record, is_played, is_in}
-use Rattle.gd_base.specs.Stage.{stage, is_bet, is_phase, is_choice, could_turn, are_choices}
+use Rattle.gd_base.specs.Histories.Credit.{wager}
+use Rattle.gd_base.specs.Histories.Rounds.{choices_of}
+use Rattle.gd_base.specs.Payloads.ViewRules.{open_is, record_rules, is_play_record, is_played, is_in}
+use Rattle.gd_base.specs.Games.Stage.{stage, is_bet, is_phase, is_choice, could_turn, are_choices}
 use Rattle.gd_play.proofs.Fresh.{first_asked}
 use Rattle.gd_play.proofs.Phases.{one_phase, phase_itself, and_true, or_left, only_left}
 use Rattle.gd_play.proofs.Turns.{below_five}

@@ -5,7 +5,7 @@ use Rattle.gd_base.specs.declared.play.Choices.{Choices}
 use Rattle.gd_base.specs.declared.play.Stage.{Stage}
 use Rattle.gd_base.specs.declared.play.StageOpen.{StageOpen}
 use Rattle.gd_base.specs.declared.setup.Setup.{Setup}
-use Rattle.gd_base.specs.Stage.{is_phase, stage_with, base_win, has_pick, lines_win, win_after}
+use Rattle.gd_base.specs.Games.Stage.{is_phase, stage_with, base_win, has_pick, lines_win, win_after}
 
 pub one_phase : (a b : StageOpen) → is_phase a b ≡ true → a ≡ b
 one_phase StageOpen.Pick StageOpen.Pick h = refl

@@ -4,16 +4,16 @@ use Rattle.std.specs.Prelude.{if◌then◌else◌}
 use Rattle.std.proofs.Math.Nat.{pow-suc, add-mul-div_right}
 use Rattle.std.proofs.lemmas.Bool.{ltb-true, lt-ltb, eqb-false}
 use Rattle.std.proofs.lemmas.Nat.{pow-add, pow_pos}
-use Rattle.gd_base.proofs.Rules.{both}
+use Rattle.gd_base.proofs.BoolTests.{both}
 use Rattle.gd_base.specs.declared.game.Colour.{Colour}
 use Rattle.gd_base.specs.declared.game.Game.{Game}
 use Rattle.gd_base.specs.declared.play.Choices.{Choices}
 use Rattle.gd_base.specs.declared.play.Stage.{Stage}
 use Rattle.gd_base.specs.declared.play.StageOpen.{StageOpen}
 use Rattle.gd_base.specs.declared.setup.Setup.{Setup}
-use Rattle.gd_base.specs.Chance.{has_bit, is_red}
-use Rattle.gd_base.specs.Rounds.{colour_bit}
-use Rattle.gd_base.specs.Stage.{stage, stage_with, base_win, gamble_stage, gamble_card, is_right, win_after, is_phase, is_choice, could_turn, are_choices}
+use Rattle.gd_base.specs.Games.Chance.{has_bit, is_red}
+use Rattle.gd_base.specs.Histories.Rounds.{colour_bit}
+use Rattle.gd_base.specs.Games.Stage.{stage, stage_with, base_win, gamble_stage, gamble_card, is_right, win_after, is_phase, is_choice, could_turn, are_choices}
 use Rattle.gd_play.proofs.Phases.{one_phase, and_true, turns_left}
 
 -- bit i doesn't change where a multiple of a higher power is added

@@ -4,14 +4,14 @@ use Rattle.gd_base.specs.declared.event.Event.{Event}
 use Rattle.gd_base.specs.declared.play.PlayRecord.{PlayRecord}
 use Rattle.gd_base.specs.declared.play.StageOpen.{StageOpen}
 use Rattle.gd_base.specs.declared.setup.Setup.{Setup}
-use Rattle.gd_base.specs.Conditions.{lock}
-use Rattle.gd_base.specs.Credit.{wager}
-use Rattle.gd_base.specs.Entry.{Entry, is_taken}
-use Rattle.gd_base.specs.Recall.{play_record}
-use Rattle.gd_base.specs.Rounds.{Round, round_of, choices_of, no_choices, open_after, ended_after, moved, is_over}
-use Rattle.gd_base.specs.Rule.{rule}
-use Rattle.gd_base.specs.Stage.{is_phase}
-use Rattle.gd_base.specs.View.{View}
+use Rattle.gd_base.specs.Histories.Conditions.{lock}
+use Rattle.gd_base.specs.Histories.Credit.{wager}
+use Rattle.gd_base.specs.Histories.Entry.{Entry, is_taken}
+use Rattle.gd_base.specs.Histories.Recall.{play_record}
+use Rattle.gd_base.specs.Histories.Rounds.{Round, round_of, choices_of, no_choices, open_after, ended_after, moved, is_over}
+use Rattle.gd_base.specs.Judging.Rule.{rule}
+use Rattle.gd_base.specs.Games.Stage.{is_phase}
+use Rattle.gd_base.specs.Histories.View.{View}
 use Rattle.gd_play.specs.Judging.{refusal, reply_of}
 use Rattle.gd_play.specs.Moving.{replayed, play_after, phase_after, phase_of}
 

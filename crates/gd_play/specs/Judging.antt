@@ -5,8 +5,8 @@ use Rattle.gd_base.specs.declared.refusal.Refusal.{Refusal}
 use Rattle.gd_base.specs.declared.refusal.Reply.{Reply}
 use Rattle.gd_base.specs.declared.play.PlayRecord.{PlayRecord}
 use Rattle.gd_base.specs.declared.play.StageOpen.{StageOpen}
-use Rattle.gd_base.specs.Rule.{unless}
-use Rattle.gd_base.specs.Stage.{is_phase}
+use Rattle.gd_base.specs.Judging.Rule.{unless}
+use Rattle.gd_base.specs.Games.Stage.{is_phase}
 
 -- a pick or a hold
 abbrev pub is_choosing : Event → Bool

@@ -4,7 +4,7 @@ use Rattle.gd_base.specs.declared.event.Event.{Event}
 use Rattle.gd_base.specs.declared.play.PlayRecord.{PlayRecord}
 use Rattle.gd_base.specs.declared.play.StageOpen.{StageOpen}
 use Rattle.gd_base.specs.declared.setup.Setup.{Setup}
-use Rattle.gd_base.specs.Rounds.{Round, round_of, round_stage, moved, is_over}
+use Rattle.gd_base.specs.Histories.Rounds.{Round, round_of, round_stage, moved, is_over}
 
 -- a play with the choices of a round, and with the win of their stage
 abbrev pub replayed : Setup → PlayRecord → Round → PlayRecord

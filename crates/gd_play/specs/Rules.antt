@@ -4,9 +4,9 @@ use Rattle.gd_base.specs.declared.game.Game.{Game}
 use Rattle.gd_base.specs.declared.play.PlayRecord.{PlayRecord}
 use Rattle.gd_base.specs.declared.play.StageOpen.{StageOpen}
 use Rattle.gd_base.specs.declared.setup.Setup.{Setup}
-use Rattle.gd_base.specs.Rounds.{choices_of}
-use Rattle.gd_base.specs.Spelling.{is_play_record, is_played, is_in}
-use Rattle.gd_base.specs.Stage.{stage, is_bet, is_phase, are_choices}
+use Rattle.gd_base.specs.Histories.Rounds.{choices_of}
+use Rattle.gd_base.specs.Payloads.ViewRules.{is_play_record, is_played, is_in}
+use Rattle.gd_base.specs.Games.Stage.{stage, is_bet, is_phase, are_choices}
 
 -- the rules of an open play in a payload, but for its place among the entries
 abbrev pub is_open_play : Setup → PlayRecord → Bool

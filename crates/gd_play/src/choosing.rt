@@ -1,7 +1,7 @@
 //! What the player chooses.
 
 ghost use Rattle.std.specs.Prelude.{◌≡◌, ◌<◌, ◌+◌, ◌*◌, ◌^◌, IsTrue, if◌then◌else◌, Some, None};
-ghost use Rattle.gd_base.specs.Rounds.{choices_of, colour_bit};
+ghost use Rattle.gd_base.specs.Histories.Rounds.{choices_of, colour_bit};
 ghost use Rattle.gd_play.specs.Judging.{is_choosing, choice_in, asks_for};
 
 use gd_base::{Choices, Colour, Event, PlayRecord, StageOpen};

@@ -3,7 +3,7 @@
 ghost use Rattle.std.specs.Prelude.{◌≡◌, Bool, IsTrue};
 ghost use Rattle.gd_base.specs.declared.game.Game.{Game};
 ghost use Rattle.gd_base.specs.declared.setup.Setup.{Setup};
-ghost use Rattle.gd_base.specs.Stage.{stage, is_bet, are_choices};
+ghost use Rattle.gd_base.specs.Games.Stage.{stage, is_bet, are_choices};
 
 use gd_base::{Block, Choices, Game, Stage};
 

@@ -1,7 +1,7 @@
 //! The machine of one play.
 
 ghost use Rattle.std.specs.Prelude.{◌≡◌, IsTrue, IsSome, OnOk, OnErr, IfOk, Some, None, option_map, option_copied};
-ghost use Rattle.gd_base.specs.Spelling.{open_is};
+ghost use Rattle.gd_base.specs.Payloads.ViewRules.{open_is};
 ghost use Rattle.gd_play.specs.Moving.{phase_of};
 ghost use Rattle.gd_play.specs.Rules.{are_kept, is_open_play};
 
@@ -22,8 +22,8 @@ pub struct PlayMachine<P: Paytable> {
 impl<P: Paytable> PlayMachine<P> {
     ghost use Rattle.gd_base.specs.declared.event.Event.{Event};
     ghost use Rattle.gd_base.specs.declared.play.StageOpen.{StageOpen};
-    ghost use Rattle.gd_base.specs.Rounds.{round_of, choices_of, no_choices};
-    ghost use Rattle.gd_base.specs.Stage.{is_bet, are_choices};
+    ghost use Rattle.gd_base.specs.Histories.Rounds.{round_of, choices_of, no_choices};
+    ghost use Rattle.gd_base.specs.Games.Stage.{is_bet, are_choices};
     ghost use Rattle.gd_play.specs.Judging.{is_choosing, refusal, judged};
     ghost use Rattle.gd_play.specs.Moving.{replayed, play_after, phase_after, finished};
     ghost use Rattle.gd_play.specs.Words.{machine_table, machine_play, machine_phase};

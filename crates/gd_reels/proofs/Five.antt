@@ -1,6 +1,6 @@
 -- Five reels: a list of five is its five elements.
 use Rattle.std.proofs.Common.{◌≡◌, ℕ, ◌+◌, ◌%◌, List, [], ◌∷◌, length, get_or, slice_index, refl, ap, ◌∙◌, arith}
-use Rattle.gd_base.specs.Chance.{row}
+use Rattle.gd_base.specs.Games.Chance.{row}
 
 pub five : {X : Type 0} → (xs : List X) (d : X) → length xs ≡ 5
     → xs ≡ get_or xs 0 d ∷ get_or xs 1 d ∷ get_or xs 2 d ∷ get_or xs 3 d ∷ get_or xs 4 d ∷ []

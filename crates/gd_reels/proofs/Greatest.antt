@@ -1,9 +1,9 @@
 -- The pays of the symbols on a line, one after another, and the greatest of them.
 use Rattle.std.proofs.Common.{◌≡◌, ◌<◌, ◌+◌, ◌++◌, ℕ, zero, suc, List, [], ◌∷◌, length, get_or, take, max, refl, arith, IsTrue}
 use Rattle.std.proofs.lemmas.List.{take_more}
-use Rattle.gd_base.specs.Chance.{greatest, pays_on, pay_of_run, run_length}
-use Rattle.gd_base.proofs.Rules.{both}
-use Rattle.gd_base.specs.SetupRules.{are_small, are_pays}
+use Rattle.gd_base.specs.Games.Chance.{greatest, pays_on, pay_of_run, run_length}
+use Rattle.gd_base.proofs.BoolTests.{both}
+use Rattle.gd_base.specs.Setups.SetupRules.{are_small, are_pays}
 
 pub length-pays_on : (line letters : List ℕ) (pays : List (List ℕ)) → length letters ≡ length pays
     → length (pays_on line letters pays) ≡ length letters

@@ -1,8 +1,8 @@
 //! What a line pays.
 ghost use Rattle.std.specs.Prelude.{◌≡◌, ◌≤◌, ◌-◌, [], get_or, nat_lt, IsTrue};
 ghost use Rattle.std.specs.List.{list_all};
-ghost use Rattle.gd_base.specs.Chance.{letters_on as letters_of, run_length as run_length_of, pay_of_run as pay_of, line_pay as line_pay_of};
-ghost use Rattle.gd_base.specs.SetupRules.{are_small};
+ghost use Rattle.gd_base.specs.Games.Chance.{letters_on as letters_of, run_length as run_length_of, pay_of_run as pay_of, line_pay as line_pay_of};
+ghost use Rattle.gd_base.specs.Setups.SetupRules.{are_small};
 ghost use Rattle.gd_base.specs.declared.tables.TheConstants.{LINES};
 
 use super::face::Window;

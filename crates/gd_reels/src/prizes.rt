@@ -1,6 +1,6 @@
 //! The prizes of the pick.
 ghost use Rattle.std.specs.Prelude.{◌≡◌, ◌≤◌};
-ghost use Rattle.gd_base.specs.Chance.{prize as prize_of};
+ghost use Rattle.gd_base.specs.Games.Chance.{prize as prize_of};
 
 use gd_base::{Block, Setup, pick};
 

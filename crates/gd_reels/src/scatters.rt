@@ -1,6 +1,6 @@
 //! The scatters of a window.
 ghost use Rattle.std.specs.Prelude.{◌≡◌, ◌≤◌, ◌==◌, count_by};
-ghost use Rattle.gd_base.specs.Chance.{scatter_count as scatter_count_of};
+ghost use Rattle.gd_base.specs.Games.Chance.{scatter_count as scatter_count_of};
 
 use super::face::Window;
 

@@ -1,8 +1,8 @@
 //! Where the reels stop, and what they show there.
 ghost use Rattle.std.specs.Prelude.{◌≡◌, ◌+◌, ◌%◌, slice_index, IsTrue};
 ghost use Rattle.std.specs.List.{list_all};
-ghost use Rattle.gd_base.specs.Chance.{stops as stops_of, row as row_of, window as window_of};
-ghost use Rattle.gd_base.specs.SetupRules.{is_letter, are_strips};
+ghost use Rattle.gd_base.specs.Games.Chance.{stops as stops_of, row as row_of, window as window_of};
+ghost use Rattle.gd_base.specs.Setups.SetupRules.{is_letter, are_strips};
 
 use super::face::Window;
 use gd_base::{Block, Setup, pick};

@@ -2,7 +2,7 @@
 ghost use Rattle.std.specs.Prelude.{None};
 ghost use Rattle.std.specs.Io.KnownBytes.{ReadConsumes};
 ghost use Rattle.std.specs.Io.{ReadsAtMost};
-ghost use Rattle.gd_base.specs.Causes.{HasCause};
+ghost use Rattle.gd_base.specs.Outside.Causes.{HasCause};
 
 use gd_base::{Failed, MemorySource, Source};
 

@@ -2,7 +2,7 @@
 use Rattle.std.proofs.Common.{◌≡◌, ℕ, List, [], ◌∷◌, codes, decimal, option_map, Option, None, Some, refl, ap, subst, ◌∙◌, arith}
 use Rattle.gd_base.specs.declared.game.Colour.{Colour}
 use Rattle.gd_base.specs.declared.event.Event.{Event}
-use Rattle.gd_base.specs.Names.{game_name}
+use Rattle.gd_base.specs.Texts.Names.{game_name}
 use Rattle.gd_script.specs.declared.keyword.Keyword.{Keyword}
 use Rattle.gd_script.specs.declared.limits.TheConstants.{MOST_AMOUNT, MOST_BET, MOST_NUMBER, MOST_PICK}
 use Rattle.gd_script.specs.declared.tables.TheConstants.{DOORS, GAMES, TILTS}

@@ -1,8 +1,8 @@
 -- The digits of a hold.
 use Rattle.std.proofs.Common.{◌≡◌, ℕ, zero, suc, ◌+◌, ◌*◌, ◌<◌, ◌≤◌, ◌==◌, ◌/◌, ◌%◌, Bool, true, false, if◌then◌else◌, List, [], ◌∷◌, ◌++◌, codes, length, take, Option, None, Some, refl, sym, ap, append_assoc, subst, ◌∙◌, arith}
 use Rattle.std.proofs.lemmas.Bool.Decides.{nat_tests}
-use Rattle.gd_base.specs.Chance.{has_bit}
-use Rattle.gd_base.specs.Texts.{bits}
+use Rattle.gd_base.specs.Games.Chance.{has_bit}
+use Rattle.gd_base.specs.Texts.OfViews.{bits}
 use Rattle.gd_script.specs.Reading.{bit_of, hold_of, mask_of}
 
 -- ================ printed

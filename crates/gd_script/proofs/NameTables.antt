@@ -7,7 +7,7 @@ use Rattle.gd_base.specs.declared.condition.Door.{Door}
 use Rattle.gd_base.specs.declared.game.Game.{Game}
 use Rattle.gd_base.specs.declared.condition.Tilt.{Tilt}
 use Rattle.gd_base.specs.declared.step.What.{What}
-use Rattle.gd_base.specs.Names.{device_name, game_name}
+use Rattle.gd_base.specs.Texts.Names.{device_name, game_name}
 use Rattle.gd_disk.specs.declared.disk.CutUnit.{CutUnit}
 use Rattle.gd_script.specs.declared.item.Side.{Side}
 use Rattle.gd_script.specs.declared.keyword.Keyword.{Keyword}

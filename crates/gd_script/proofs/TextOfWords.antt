@@ -14,9 +14,9 @@ use Rattle.gd_base.specs.declared.event.Event.{Event}
 use Rattle.gd_base.specs.declared.game.Game.{Game}
 use Rattle.gd_base.specs.declared.condition.Tilt.{Tilt}
 use Rattle.gd_base.specs.declared.step.What.{What}
-use Rattle.gd_base.specs.Chance.{has_bit}
-use Rattle.gd_base.specs.Names.{device_name, game_name}
-use Rattle.gd_base.specs.Texts.{bits}
+use Rattle.gd_base.specs.Games.Chance.{has_bit}
+use Rattle.gd_base.specs.Texts.Names.{device_name, game_name}
+use Rattle.gd_base.specs.Texts.OfViews.{bits}
 use Rattle.gd_disk.specs.declared.disk.CutUnit.{CutUnit}
 use Rattle.gd_script.specs.declared.item.Item.{Item}
 use Rattle.gd_script.specs.declared.item.OrderWord.{OrderWord}

@@ -4,8 +4,8 @@ use Rattle.std.specs.List.{join_with_byte}
 use Rattle.gd_base.specs.declared.device.Device.{Device}
 use Rattle.gd_base.specs.declared.event.Event.{Event}
 use Rattle.gd_base.specs.declared.step.What.{What}
-use Rattle.gd_base.specs.Names.{device_name, game_name, colour_name}
-use Rattle.gd_base.specs.Texts.{bits}
+use Rattle.gd_base.specs.Texts.Names.{device_name, game_name, colour_name}
+use Rattle.gd_base.specs.Texts.OfViews.{bits}
 use Rattle.gd_script.specs.declared.item.Item.{Item}
 use Rattle.gd_script.specs.declared.limits.TheConstants.{HELD_CARDS, LAST_PLACE, MOST_AMOUNT, MOST_BET, MOST_CUT, MOST_HOLD, MOST_MASK, MOST_NUMBER, MOST_PICK, MOST_TORN}
 use Rattle.gd_script.specs.Names.{door_name, tilt_name, order_name, unit_name, side_name, what_name}

@@ -1,7 +1,7 @@
 //! Event lines.
 
 ghost use Rattle.std.specs.Prelude.{◌≡◌, option_map, option_and_then};
-ghost use Rattle.gd_base.specs.Names.{game_name};
+ghost use Rattle.gd_base.specs.Texts.Names.{game_name};
 ghost use Rattle.gd_script.specs.Names.{door_name, tilt_name};
 ghost use Rattle.gd_script.specs.Reading.{amount_of, bare_event, event_of, event_with, named, number_in, number_of};
 ghost use Rattle.gd_script.specs.Reading.{only, pair, play_of, voucher_of, words};

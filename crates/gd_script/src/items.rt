@@ -1,7 +1,7 @@
 //! Lines that aren't events.
 
 ghost use Rattle.std.specs.Prelude.{◌≡◌, option_map, option_and_then};
-ghost use Rattle.gd_base.specs.Names.{device_name};
+ghost use Rattle.gd_base.specs.Texts.Names.{device_name};
 ghost use Rattle.gd_script.specs.Names.{side_name, unit_name, what_name};
 ghost use Rattle.gd_script.specs.Reading.{alter_item, bare_item, cut_item, item_with, named, numbered_of, only, order_of, pair, words};
 

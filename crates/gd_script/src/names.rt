@@ -1,7 +1,7 @@
 //! The words that name a value, for each kind of value.
 
 ghost use Rattle.std.specs.Prelude.{◌≡◌};
-ghost use Rattle.gd_base.specs.Names.{device_name, game_name};
+ghost use Rattle.gd_base.specs.Texts.Names.{device_name, game_name};
 ghost use Rattle.gd_script.specs.Names.{door_name, order_name, side_name, tilt_name, unit_name, what_name};
 ghost use Rattle.gd_script.specs.Reading.{keyword_name};
 

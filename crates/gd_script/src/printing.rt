@@ -3,8 +3,8 @@
 ghost use Rattle.std.specs.Prelude.{◌≡◌, ◌≤◌, ◌+◌, ◌++◌, ◌∷◌, [], ◌<◌, if◌then◌else◌, codes, decimal, length, Ok};
 ghost use Rattle.std.specs.List.{join_with_byte};
 ghost use Rattle.arrayvec.specs.ArrayString.{array_string_len};
-ghost use Rattle.gd_base.specs.Chance.{has_bit};
-ghost use Rattle.gd_base.specs.Texts.{bits};
+ghost use Rattle.gd_base.specs.Games.Chance.{has_bit};
+ghost use Rattle.gd_base.specs.Texts.OfViews.{bits};
 ghost use Rattle.gd_script.specs.Grammar.{InGrammar, IsLineEvent, event_words, line_text, order_number, show_words};
 ghost use Rattle.gd_script.specs.Names.{order_name};
 ghost use Rattle.gd_script.specs.Reading.{read_of};

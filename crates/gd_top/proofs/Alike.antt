@@ -1,7 +1,7 @@
 -- The same machine and the same blocks, after some lines.
 use Rattle.std.proofs.Common.{◌≡◌, ◌∙◌, subst, ℕ, Bool, List}
-use Rattle.gd_base.specs.Machine.{Machine, Blocks}
-use Rattle.gd_base.specs.Causes.{Rose}
+use Rattle.gd_base.specs.Judging.Machine.{Machine, Blocks}
+use Rattle.gd_base.specs.Outside.Causes.{Rose}
 use Rattle.gd_disk.specs.Disk.{DiskState}
 use Rattle.gd_top.specs.declared.step.Step.{Step}
 use Rattle.gd_top.specs.Carrying.{Standing, Outside, CarriesBy}

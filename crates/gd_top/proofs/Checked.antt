@@ -7,14 +7,14 @@ use Rattle.gd_base.specs.declared.payout.Handpay.{Handpay}
 use Rattle.gd_base.specs.declared.play.PlayRecord.{PlayRecord}
 use Rattle.gd_base.specs.declared.play.StageOpen.{StageOpen}
 use Rattle.gd_base.specs.declared.setup.Setup.{Setup}
-use Rattle.gd_base.specs.Credit.{wager}
-use Rattle.gd_base.specs.Rounds.{choices_of}
-use Rattle.gd_base.specs.SoFar.{is_whole_so_far, is_reels, is_plain}
-use Rattle.gd_base.specs.Spelling.{is_placed, view_rules, setup_rules, record_rules, is_possible, is_possible_under, is_play_record, is_open_record, is_played, is_in, is_choice_value, is_flagged_last, is_balanced, is_some_handpay, not_both, open_is}
-use Rattle.gd_base.specs.Stage.{is_choice, are_choices}
-use Rattle.gd_base.specs.TheMachine.{both_hold}
-use Rattle.gd_base.specs.View.{View}
-use Rattle.gd_base.proofs.Rules.{all_hold, all_told, both, is_below, is_equal, is_so, is_within}
+use Rattle.gd_base.specs.Histories.Credit.{wager}
+use Rattle.gd_base.specs.Histories.Rounds.{choices_of}
+use Rattle.gd_base.specs.Judging.SoFar.{is_whole_so_far, is_reels, is_plain}
+use Rattle.gd_base.specs.Payloads.ViewRules.{is_placed, view_rules, setup_rules, record_rules, is_possible, is_possible_under, is_play_record, is_open_record, is_played, is_in, is_choice_value, is_flagged_last, is_balanced, is_some_handpay, not_both, open_is}
+use Rattle.gd_base.specs.Games.Stage.{is_choice, are_choices}
+use Rattle.gd_base.specs.Judging.Product.{both_hold}
+use Rattle.gd_base.specs.Histories.View.{View}
+use Rattle.gd_base.proofs.BoolTests.{all_hold, all_told, both, is_below, is_equal, is_so, is_within}
 use Rattle.gd_top.specs.declared.first_core.books.Books.{Books}
 use Rattle.gd_top.specs.Books.{view_of}
 use Rattle.gd_top.specs.Checks.{are_counts, is_plain_record, is_staged, is_going_on, is_open_at, is_in_order, is_one_of}

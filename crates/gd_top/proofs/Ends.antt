@@ -1,8 +1,8 @@
 -- The end of a trial: what the memory is left as, and why the status came.
 use Rattle.std.proofs.Common.{◌≡◌, ◌⊎◌, inl, inr, ◌≤◌, arith, ℕ, Option, Some, None, List, [], refl}
 use Rattle.std.specs.Io.KnownBytes.{Consumes}
-use Rattle.gd_base.specs.Causes.{Rose}
-use Rattle.gd_base.specs.Machine.{Machine}
+use Rattle.gd_base.specs.Outside.Causes.{Rose}
+use Rattle.gd_base.specs.Judging.Machine.{Machine}
 use Rattle.gd_disk.specs.Disk.{DiskState}
 use Rattle.gd_top.specs.LinesDone.{step_of}
 use Rattle.gd_top.specs.Running.{IsClosed, Wrote}

@@ -8,10 +8,10 @@ use Rattle.gd_base.specs.declared.refusal.Reply.{Reply}
 use Rattle.gd_base.specs.declared.step.Numbered.{Numbered}
 use Rattle.gd_base.specs.declared.step.Stepped.{Stepped}
 use Rattle.gd_base.specs.declared.step.What.{What}
-use Rattle.gd_base.specs.Answer.{answer, entry_of}
-use Rattle.gd_base.specs.Entry.{device_of}
-use Rattle.gd_base.specs.Machine.{Machine, Blocks}
-use Rattle.gd_base.specs.Opens.{opens}
+use Rattle.gd_base.specs.Judging.Answer.{answer, entry_of}
+use Rattle.gd_base.specs.Histories.Entry.{device_of}
+use Rattle.gd_base.specs.Judging.Machine.{Machine, Blocks}
+use Rattle.gd_base.specs.Payloads.LoadedView.{opens}
 use Rattle.gd_disk.specs.declared.disk.CutUnit.{CutUnit}
 use Rattle.gd_disk.specs.Waits.{waits_for}
 use Rattle.gd_script.specs.declared.item.Item.{Item}

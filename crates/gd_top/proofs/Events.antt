@@ -5,17 +5,17 @@ use Rattle.std.specs.Prelude.{codes}
 use Rattle.gd_base.specs.declared.refusal.Reply.{Reply}
 use Rattle.gd_base.specs.declared.step.Numbered.{Numbered}
 use Rattle.gd_base.specs.declared.step.Stepped.{Stepped}
-use Rattle.gd_base.specs.Answer.{answer, after_answer, entry_of, is_new}
-use Rattle.gd_base.specs.Causes.{Rose}
-use Rattle.gd_base.specs.Entry.{device_of}
-use Rattle.gd_base.specs.Legal.{draw_of}
-use Rattle.gd_base.specs.Machine.{Machine, Blocks}
+use Rattle.gd_base.specs.Judging.Answer.{answer, after_answer, entry_of, is_new}
+use Rattle.gd_base.specs.Outside.Causes.{Rose}
+use Rattle.gd_base.specs.Histories.Entry.{device_of}
+use Rattle.gd_base.specs.Judging.Legal.{draw_of}
+use Rattle.gd_base.specs.Judging.Machine.{Machine, Blocks}
 use Rattle.gd_cabinet.specs.Answered.{offered, syncs_of}
 use Rattle.gd_disk.specs.Disk.{DiskState}
 use Rattle.gd_disk.specs.Runs.{CanMeet, CutOrFaultIn}
 use Rattle.gd_top.specs.Answered.{answer_text}
 use Rattle.gd_top.specs.Carrying.{Unseen, Moves, at, standing, IsWhole}
-use Rattle.gd_base.proofs.Answer.{new_event}
+use Rattle.gd_base.proofs.AnswerLemmas.Answer.{new_event}
 use Rattle.gd_top.specs.Lines.{answer_line}
 use Rattle.gd_top.specs.Items.{event_told}
 use Rattle.gd_top.specs.Offers.{is_broken, counted, unless_broken, Offer}

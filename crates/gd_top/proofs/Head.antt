@@ -11,8 +11,8 @@ use Rattle.std.proofs.lemmas.Slice.{drop-append-drop}
 use Rattle.gd_base.specs.declared.refusal.Reply.{Reply}
 use Rattle.gd_base.specs.declared.layout.TheConstants.{HEAD_LEN, COUNT_AT, BALANCE_AT, TOTALS_AT, HANDPAY_AT, KEPT_AT, KEPT_LEN}
 use Rattle.gd_base.specs.declared.payout.Handpay.{Handpay}
-use Rattle.gd_base.specs.Payload.{eight, kept_bytes, handpay_bytes, head_bytes, filled}
-use Rattle.gd_base.specs.SoFar.{view_so_far}
+use Rattle.gd_base.specs.Payloads.Bytes.{eight, kept_bytes, handpay_bytes, head_bytes, filled}
+use Rattle.gd_base.specs.Judging.SoFar.{view_so_far}
 use Rattle.gd_top.specs.Books.{put_at}
 
 -- a second piece right behind a first one

@@ -2,8 +2,8 @@
 use Rattle.std.proofs.Common.{◌≡◌, ◌∙◌, ap, sym, subst, refl, inl, inr, ℕ, List, arith, Option, Some, All, [], ◌∷◌, ◌++◌}
 use Rattle.std.proofs.lemmas.Bool.Decides.{nat_tests}
 use Rattle.std.proofs.lemmas.List.Elements.{All-append, All-cons, All-nil}
-use Rattle.gd_base.specs.Machine.{Machine, Blocks}
-use Rattle.gd_base.specs.Spelled.{Shows}
+use Rattle.gd_base.specs.Judging.Machine.{Machine, Blocks}
+use Rattle.gd_base.specs.Payloads.Spelled.{Shows}
 use Rattle.gd_cabinet.specs.Opening.{IsOpening, start_of, started}
 use Rattle.gd_cabinet.specs.Shown.{shows, IsInBoth, ShowsEither}
 use Rattle.gd_cabinet.proofs.Showing.{settled_shows}

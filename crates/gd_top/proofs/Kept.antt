@@ -5,11 +5,11 @@ use Rattle.gd_base.specs.declared.device.Device.{Device}
 use Rattle.gd_base.specs.declared.refusal.Reply.{Reply}
 use Rattle.gd_base.specs.declared.play.PlayRecord.{PlayRecord}
 use Rattle.gd_base.specs.declared.setup.Setup.{Setup}
-use Rattle.gd_base.specs.Devices.{kept_at}
-use Rattle.gd_base.specs.Numbers.{device_place}
-use Rattle.gd_base.specs.Devices.{with_reply}
-use Rattle.gd_base.specs.Spelling.{is_flagged_last}
-use Rattle.gd_base.proofs.Rules.{both, is_so}
+use Rattle.gd_base.specs.Histories.Devices.{kept_at}
+use Rattle.gd_base.specs.Histories.Numbers.{device_place}
+use Rattle.gd_base.specs.Histories.Devices.{with_reply}
+use Rattle.gd_base.specs.Payloads.ViewRules.{is_flagged_last}
+use Rattle.gd_base.proofs.BoolTests.{both, is_so}
 use Rattle.gd_top.specs.declared.first_core.books.Books.{Books}
 use Rattle.gd_top.proofs.Plays.{IsKept}
 

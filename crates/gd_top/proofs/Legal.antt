@@ -5,13 +5,13 @@ use Rattle.std.specs.declared.option.Option.{Option}
 use Rattle.gd_base.specs.declared.device.Device.{Device}
 use Rattle.gd_base.specs.declared.step.Numbered.{Numbered}
 use Rattle.gd_base.specs.declared.step.Stepped.{Stepped}
-use Rattle.gd_base.specs.Answer.{answer, entry_of, is_full}
-use Rattle.gd_base.specs.Entry.{Entry}
-use Rattle.gd_base.specs.Legal.{IsLegal, IsNext, view_over}
-use Rattle.gd_base.specs.Machine.{Machine, Blocks}
-use Rattle.gd_base.specs.Opens.{opens}
-use Rattle.gd_base.specs.Spelled.{Spelled, Shows, Foreign, Unreadable}
-use Rattle.gd_base.proofs.Answer.{new_entry}
+use Rattle.gd_base.specs.Judging.Answer.{answer, entry_of, is_full}
+use Rattle.gd_base.specs.Histories.Entry.{Entry}
+use Rattle.gd_base.specs.Judging.Legal.{IsLegal, IsNext, view_over}
+use Rattle.gd_base.specs.Judging.Machine.{Machine, Blocks}
+use Rattle.gd_base.specs.Payloads.LoadedView.{opens}
+use Rattle.gd_base.specs.Payloads.Spelled.{Spelled, Shows, Foreign, Unreadable}
+use Rattle.gd_base.proofs.AnswerLemmas.Answer.{new_entry}
 use Rattle.gd_disk.specs.Waits.{Waits, SyncsLeft, ByCalls, waits_for}
 use Rattle.gd_script.specs.declared.item.Item.{Item}
 use Rattle.gd_script.specs.Items.{order_event}

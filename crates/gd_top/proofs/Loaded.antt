@@ -3,14 +3,14 @@ use Rattle.std.proofs.Common.{◌≡◌, ℕ, subst, refl, ◌==◌, ◌&&◌, n
 use Rattle.gd_base.specs.declared.play.PlayRecord.{PlayRecord}
 use Rattle.gd_base.specs.declared.play.StageOpen.{StageOpen}
 use Rattle.gd_base.specs.declared.setup.Setup.{Setup}
-use Rattle.gd_base.specs.SoFar.{is_reels, is_whole_so_far}
-use Rattle.gd_base.specs.Spelling.{open_is, is_play_record, is_played, is_in}
-use Rattle.gd_base.proofs.Rules.{both}
-use Rattle.gd_base.proofs.SoFarRules.{IsKeptPlay, counted}
+use Rattle.gd_base.specs.Judging.SoFar.{is_reels, is_whole_so_far}
+use Rattle.gd_base.specs.Payloads.ViewRules.{open_is, is_play_record, is_played, is_in}
+use Rattle.gd_base.proofs.BoolTests.{both}
+use Rattle.gd_base.proofs.SoFarLemmas.Rules.{IsKeptPlay, counted}
 use Rattle.gd_play.specs.Rules.{is_open_play}
 use Rattle.gd_top.specs.declared.first_core.books.Books.{Books}
 use Rattle.gd_top.specs.Books.{view_of}
-use Rattle.gd_base.specs.TheMachine.{both_hold}
+use Rattle.gd_base.specs.Judging.Product.{both_hold}
 
 games : (setup : Setup) (count : ℕ) (play : Option PlayRecord) → IsKeptPlay setup count play → open_is (λ p. is_reels p.game) play ≡ true
 games setup count None k = refl

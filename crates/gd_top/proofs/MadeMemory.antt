@@ -1,7 +1,7 @@
 -- A memory that was made has the empty view in both copies.
 use Rattle.std.proofs.Common.{◌≡◌, ◌∙◌, ap, sym, subst, ℕ, List, Option, Some}
-use Rattle.gd_base.specs.Machine.{Machine}
-use Rattle.gd_base.specs.Spelled.{Shows}
+use Rattle.gd_base.specs.Judging.Machine.{Machine}
+use Rattle.gd_base.specs.Payloads.Spelled.{Shows}
 use Rattle.gd_cabinet.specs.Shown.{IsInBoth}
 use Rattle.gd_disk.specs.Disk.{DiskState, IfTold, IsSynced, Loses, Stands}
 use Rattle.gd_store.specs.Copy.{HoldsBoth}

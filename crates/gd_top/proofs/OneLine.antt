@@ -2,8 +2,8 @@
 use Rattle.std.proofs.Common.{◌≡◌, ◌∙◌, ap, sym, refl, ℕ, ◌+◌, ◌<◌, nat_lt, Bool, true, false, List, [], ◌++◌, append_assoc, append-nil, arith, if◌then◌else◌, Option, None, Some, Result, Ok, Err}
 use Rattle.std.proofs.lemmas.Bool.Decides.{nat_tests}
 use Rattle.std.proofs.KnownBytes.{Appends-nil}
-use Rattle.gd_base.specs.Causes.{AppendsFront}
-use Rattle.gd_base.specs.Machine.{Machine, Blocks}
+use Rattle.gd_base.specs.Outside.Causes.{AppendsFront}
+use Rattle.gd_base.specs.Judging.Machine.{Machine, Blocks}
 use Rattle.gd_disk.specs.Disk.{DiskState}
 use Rattle.gd_script.specs.declared.item.Item.{Item}
 use Rattle.gd_script.specs.declared.item.LineFault.{LineFault}

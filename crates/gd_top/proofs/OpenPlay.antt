@@ -4,8 +4,8 @@ use Rattle.std.specs.List.{flat_map}
 use Rattle.std.proofs.lemmas.List.{drop-replicate, replicate-append-replicate}
 use Rattle.gd_base.specs.declared.layout.TheConstants.{HEAD_LEN, OPEN_PLAY_LEN, PLAYS_LEN, EVENTS_LEN, BILLS_LEN, VOUCHERS_LEN, REST_LEN, PAYLOAD_LEN, PLAY_LEN}
 use Rattle.gd_base.specs.declared.play.PlayRecord.{PlayRecord}
-use Rattle.gd_base.specs.Payload.{four, eight, choice_code, play_bytes, filled}
-use Rattle.gd_base.specs.Numbers.{game_number}
+use Rattle.gd_base.specs.Payloads.Bytes.{four, eight, choice_code, play_bytes, filled}
+use Rattle.gd_base.specs.Histories.Numbers.{game_number}
 use Rattle.gd_top.specs.Books.{put_at}
 use Rattle.gd_top.proofs.Head.{put_behind, row_length, eight_long}
 

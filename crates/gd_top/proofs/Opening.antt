@@ -3,13 +3,13 @@ use Rattle.std.proofs.Common.{◌≡◌, ◌∙◌, ap, sym, subst, refl, ℕ, �
 use Rattle.std.proofs.lemmas.Bool.Decides.{nat_tests}
 use Rattle.std.specs.Io.KnownBytes.{Appends}
 use Rattle.gd_base.specs.declared.event.Event.{Event}
-use Rattle.gd_base.specs.Answer.{after_answer, is_full}
-use Rattle.gd_base.specs.Causes.{AppendsFront}
-use Rattle.gd_base.specs.Legal.{draw_of, next_entry}
-use Rattle.gd_base.specs.Machine.{Machine, Blocks}
-use Rattle.gd_base.specs.Opens.{opens}
-use Rattle.gd_base.specs.Spelled.{Spelled, Shows}
-use Rattle.gd_base.proofs.Answer.{answer_new, answer_full}
+use Rattle.gd_base.specs.Judging.Answer.{after_answer, is_full}
+use Rattle.gd_base.specs.Outside.Causes.{AppendsFront}
+use Rattle.gd_base.specs.Judging.Legal.{draw_of, next_entry}
+use Rattle.gd_base.specs.Judging.Machine.{Machine, Blocks}
+use Rattle.gd_base.specs.Payloads.LoadedView.{opens}
+use Rattle.gd_base.specs.Payloads.Spelled.{Spelled, Shows}
+use Rattle.gd_base.proofs.AnswerLemmas.Answer.{answer_new, answer_full}
 use Rattle.gd_cabinet.specs.Opening.{start_of, started}
 use Rattle.gd_cabinet.specs.Shown.{shows}
 use Rattle.gd_disk.specs.Disk.{DiskState}

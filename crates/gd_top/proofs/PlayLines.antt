@@ -4,15 +4,15 @@ use Rattle.std.specs.Fmt.{digits}
 use Rattle.gd_base.specs.declared.game.Game.{Game}
 use Rattle.gd_base.specs.declared.play.PlayRecord.{PlayRecord}
 use Rattle.gd_base.specs.declared.setup.Setup.{Setup}
-use Rattle.gd_base.specs.Chance.{window}
-use Rattle.gd_base.specs.Credit.{wager}
-use Rattle.gd_base.specs.Rounds.{choices_of}
-use Rattle.gd_base.specs.SoFar.{is_plain, is_reels}
-use Rattle.gd_base.specs.Spelling.{record_rules, is_play_record, is_played, is_choice_value}
-use Rattle.gd_base.specs.Stage.{stage, is_bet, are_choices}
-use Rattle.gd_base.specs.Texts.{event_line, bill_line, voucher_line, events_text, spaced, play_head, pick_line, game_lines, turn_lines, stage_line, open_lines}
-use Rattle.gd_base.specs.View.{View}
-use Rattle.gd_base.proofs.Rules.{all_told, both, is_so}
+use Rattle.gd_base.specs.Games.Chance.{window}
+use Rattle.gd_base.specs.Histories.Credit.{wager}
+use Rattle.gd_base.specs.Histories.Rounds.{choices_of}
+use Rattle.gd_base.specs.Judging.SoFar.{is_plain, is_reels}
+use Rattle.gd_base.specs.Payloads.ViewRules.{record_rules, is_play_record, is_played, is_choice_value}
+use Rattle.gd_base.specs.Games.Stage.{stage, is_bet, are_choices}
+use Rattle.gd_base.specs.Texts.OfViews.{event_line, bill_line, voucher_line, events_text, spaced, play_head, pick_line, game_lines, turn_lines, stage_line, open_lines}
+use Rattle.gd_base.specs.Histories.View.{View}
+use Rattle.gd_base.proofs.BoolTests.{all_told, both, is_so}
 use Rattle.gd_top.specs.Checks.{is_plain_record, is_going_on, is_in_order}
 use Rattle.gd_top.proofs.Checked.{is_reels_game}
 

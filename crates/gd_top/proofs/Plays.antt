@@ -10,23 +10,23 @@ use Rattle.gd_base.specs.declared.play.Choices.{Choices}
 use Rattle.gd_base.specs.declared.play.PlayRecord.{PlayRecord}
 use Rattle.gd_base.specs.declared.play.StageOpen.{StageOpen}
 use Rattle.gd_base.specs.declared.setup.Setup.{Setup}
-use Rattle.gd_base.specs.Answer.{IsDraw}
-use Rattle.gd_base.specs.Credit.{wager}
-use Rattle.gd_base.specs.Meters.{with_one}
-use Rattle.gd_base.specs.Recall.{play_record}
-use Rattle.gd_base.specs.Rounds.{Round, round_of, round_stage, choices_of, chosen, is_over, is_take}
-use Rattle.gd_base.specs.Rule.{rule, refusals, reply_by, locked_up, unless, is_at}
-use Rattle.gd_base.specs.SoFar.{is_reels}
-use Rattle.gd_base.specs.Spelling.{record_rules}
-use Rattle.gd_base.specs.Stage.{stage, is_bet, is_phase, are_choices}
-use Rattle.gd_base.specs.View.{View}
+use Rattle.gd_base.specs.Judging.Answer.{IsDraw}
+use Rattle.gd_base.specs.Histories.Credit.{wager}
+use Rattle.gd_base.specs.Histories.Meters.{with_one}
+use Rattle.gd_base.specs.Histories.Recall.{play_record}
+use Rattle.gd_base.specs.Histories.Rounds.{Round, round_of, round_stage, choices_of, chosen, is_over, is_take}
+use Rattle.gd_base.specs.Judging.Rule.{rule, refusals, reply_by, locked_up, unless, is_at}
+use Rattle.gd_base.specs.Judging.SoFar.{is_reels}
+use Rattle.gd_base.specs.Payloads.ViewRules.{record_rules}
+use Rattle.gd_base.specs.Games.Stage.{stage, is_bet, is_phase, are_choices}
+use Rattle.gd_base.specs.Histories.View.{View}
 use Rattle.std.proofs.lemmas.Bool.Decides.{nat_tests}
-use Rattle.gd_base.proofs.BooksLegal.{AreNone, told, not_refused}
-use Rattle.gd_base.proofs.Itself.{play_itself}
-use Rattle.gd_base.proofs.Rules.{both, all_told, at_most, is_so}
-use Rattle.gd_base.proofs.SoFarRules.{IsCounted, IsKeptPlay, counted, counts_at, reels_only}
-use Rattle.gd_base.proofs.SoFarSteps.{IsOfRound, effect_refused, effect_bill, effect_start, effect_play, effect_pick, effect_take, view_moved, still_open}
-use Rattle.gd_base.proofs.Wins.{most_win}
+use Rattle.gd_base.proofs.BooksLemmas.LegalBooks.{AreNone, told, not_refused}
+use Rattle.gd_base.proofs.PayloadLemmas.Itself.{play_itself}
+use Rattle.gd_base.proofs.BoolTests.{both, all_told, at_most, is_so}
+use Rattle.gd_base.proofs.SoFarLemmas.Rules.{IsCounted, IsKeptPlay, counted, counts_at, reels_only}
+use Rattle.gd_base.proofs.SoFarLemmas.Steps.{IsOfRound, effect_refused, effect_bill, effect_start, effect_play, effect_pick, effect_take, view_moved, still_open}
+use Rattle.gd_base.proofs.HistoryLemmas.Wins.{most_win}
 use Rattle.gd_play.specs.Judging.{refusal, judged}
 use Rattle.gd_play.specs.Moving.{phase_of, replayed, play_after, phase_after}
 use Rattle.gd_top.specs.declared.first_core.books.Books.{Books}

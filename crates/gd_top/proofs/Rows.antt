@@ -6,15 +6,15 @@ use Rattle.gd_base.specs.declared.device.Device.{Device}
 use Rattle.gd_base.specs.declared.event.Event.{Event}
 use Rattle.gd_base.specs.declared.game.Game.TheVariants as Game
 use Rattle.gd_base.specs.declared.step.What.{What}
-use Rattle.gd_base.specs.Answer.{answer}
-use Rattle.gd_base.specs.BuiltIn.{built_in_setup}
-use Rattle.gd_base.specs.Chance.{word_for}
-use Rattle.gd_base.specs.Legal.{after_events, view_over}
-use Rattle.gd_base.specs.Machine.{Machine, Blocks}
-use Rattle.gd_base.specs.Spelled.{Shows, Unreadable}
-use Rattle.gd_base.specs.SoFar.{machine_so_far, no_digest}
-use Rattle.gd_base.specs.TheMachine.{machine}
-use Rattle.gd_base.specs.View.{View}
+use Rattle.gd_base.specs.Judging.Answer.{answer}
+use Rattle.gd_base.specs.Setups.BuiltIn.{built_in_setup}
+use Rattle.gd_base.specs.Games.Chance.{word_for}
+use Rattle.gd_base.specs.Judging.Legal.{after_events, view_over}
+use Rattle.gd_base.specs.Judging.Machine.{Machine, Blocks}
+use Rattle.gd_base.specs.Payloads.Spelled.{Shows, Unreadable}
+use Rattle.gd_base.specs.Judging.SoFar.{machine_so_far, no_digest}
+use Rattle.gd_base.specs.Judging.Product.{machine}
+use Rattle.gd_base.specs.Histories.View.{View}
 use Rattle.gd_disk.specs.declared.disk.CutUnit.{CutUnit}
 use Rattle.gd_script.specs.declared.item.Item.{Item}
 use Rattle.gd_script.specs.declared.item.Side.{Side}

@@ -1,11 +1,11 @@
 -- What a payload spells, by the two tests on the view that was read from it.
 use Rattle.std.proofs.Common.{◌≡◌, ◌∙◌, ap, sym, refl, ℕ, List, Bool, true, false, ◌&&◌, if◌then◌else◌}
 use Rattle.gd_base.specs.declared.setup.Setup.{Setup}
-use Rattle.gd_base.specs.Payload.{payload_of}
-use Rattle.gd_base.specs.SoFar.{spelled_so_far, is_whole_so_far, view_at}
-use Rattle.gd_base.specs.Spelled.{Shows, Unreadable}
-use Rattle.gd_base.specs.TheMachine.{same_numbers}
-use Rattle.gd_base.specs.View.{View}
+use Rattle.gd_base.specs.Payloads.Bytes.{payload_of}
+use Rattle.gd_base.specs.Judging.SoFar.{spelled_so_far, is_whole_so_far, view_at}
+use Rattle.gd_base.specs.Payloads.Spelled.{Shows, Unreadable}
+use Rattle.gd_base.specs.Judging.Product.{same_numbers}
+use Rattle.gd_base.specs.Histories.View.{View}
 
 by_tests : (v : View) (a b x y : Bool) → x ≡ a → y ≡ b → (if x && y then Shows v else Unreadable) ≡ (if a && b then Shows v else Unreadable)
 by_tests v a b x y p q = λ j. if p j && q j then Shows v else Unreadable

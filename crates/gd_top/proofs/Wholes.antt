@@ -9,32 +9,32 @@ use Rattle.gd_base.specs.declared.payout.Handpay.{Handpay}
 use Rattle.gd_base.specs.declared.play.PlayRecord.{PlayRecord}
 use Rattle.gd_base.specs.declared.play.StageOpen.{StageOpen}
 use Rattle.gd_base.specs.declared.setup.Setup.{Setup}
-use Rattle.gd_base.specs.Answer.{IsDraw}
-use Rattle.gd_base.specs.Credit.{wager}
-use Rattle.gd_base.specs.Draws.{next_index}
-use Rattle.gd_base.specs.Entry.{Entry, device_of, is_taken}
-use Rattle.gd_base.specs.Legal.{IsNext, IsLegal, draw_of, next_entry, view_over}
-use Rattle.gd_base.specs.Machine.{Blocks}
-use Rattle.gd_base.specs.Meters.{with_one}
-use Rattle.gd_base.specs.Recall.{play_record}
-use Rattle.gd_base.specs.Rounds.{Round, round_of, round_stage, choices_of, new_round, chosen, is_over}
-use Rattle.gd_base.specs.Rule.{rule, refusals, unless, is_at, is_bill}
-use Rattle.gd_base.specs.Payload.{payload_of}
-use Rattle.gd_base.specs.SoFar.{machine_so_far, rule_so_far, is_drawn_so_far, is_whole_so_far, view_so_far, spelled_so_far}
-use Rattle.gd_base.specs.Devices.{with_reply}
-use Rattle.gd_base.specs.Spelled.{Shows}
-use Rattle.gd_base.specs.Stage.{stage, is_bet, are_choices}
-use Rattle.gd_base.specs.View.{View}
-use Rattle.gd_base.proofs.BooksLegal.{AreNone, told, not_held}
-use Rattle.gd_base.proofs.Rules.{both, at_most}
-use Rattle.gd_base.proofs.SoFar.{spelled_back}
-use Rattle.gd_base.proofs.SoFarRules.{IsCounted, IsKeptPlay, counted, whole_of, counts_at, counted_refused, counted_bill, counted_start, counted_open, counted_chosen, counted_ended, counted_ended_at_once, begun_kept, chosen_kept, bill_small}
-use Rattle.gd_base.proofs.SoFarSteps.{effect_refused, effect_bill, effect_start, effect_play, effect_pick, effect_take, view_moved, still_open}
-use Rattle.gd_base.proofs.Wins.{most_win}
+use Rattle.gd_base.specs.Judging.Answer.{IsDraw}
+use Rattle.gd_base.specs.Histories.Credit.{wager}
+use Rattle.gd_base.specs.Judging.Draws.{next_index}
+use Rattle.gd_base.specs.Histories.Entry.{Entry, device_of, is_taken}
+use Rattle.gd_base.specs.Judging.Legal.{IsNext, IsLegal, draw_of, next_entry, view_over}
+use Rattle.gd_base.specs.Judging.Machine.{Blocks}
+use Rattle.gd_base.specs.Histories.Meters.{with_one}
+use Rattle.gd_base.specs.Histories.Recall.{play_record}
+use Rattle.gd_base.specs.Histories.Rounds.{Round, round_of, round_stage, choices_of, new_round, chosen, is_over}
+use Rattle.gd_base.specs.Judging.Rule.{rule, refusals, unless, is_at, is_bill}
+use Rattle.gd_base.specs.Payloads.Bytes.{payload_of}
+use Rattle.gd_base.specs.Judging.SoFar.{machine_so_far, rule_so_far, is_drawn_so_far, is_whole_so_far, view_so_far, spelled_so_far}
+use Rattle.gd_base.specs.Histories.Devices.{with_reply}
+use Rattle.gd_base.specs.Payloads.Spelled.{Shows}
+use Rattle.gd_base.specs.Games.Stage.{stage, is_bet, are_choices}
+use Rattle.gd_base.specs.Histories.View.{View}
+use Rattle.gd_base.proofs.BooksLemmas.LegalBooks.{AreNone, told, not_held}
+use Rattle.gd_base.proofs.BoolTests.{both, at_most}
+use Rattle.gd_base.proofs.SoFarLemmas.Bytes.{spelled_back}
+use Rattle.gd_base.proofs.SoFarLemmas.Rules.{IsCounted, IsKeptPlay, counted, whole_of, counts_at, counted_refused, counted_bill, counted_start, counted_open, counted_chosen, counted_ended, counted_ended_at_once, begun_kept, chosen_kept, bill_small}
+use Rattle.gd_base.proofs.SoFarLemmas.Steps.{effect_refused, effect_bill, effect_start, effect_play, effect_pick, effect_take, view_moved, still_open}
+use Rattle.gd_base.proofs.HistoryLemmas.Wins.{most_win}
 use Rattle.gd_play.proofs.Fresh.{first_asked}
 use Rattle.gd_top.specs.declared.first_core.books.Books.{Books}
 use Rattle.gd_top.specs.Books.{AreWords, view_of}
-use Rattle.gd_base.specs.Blocks.{IsBlock, AreBlocks}
+use Rattle.gd_base.specs.Outside.Blocks.{IsBlock, AreBlocks}
 use Rattle.gd_top.specs.Histories.{IsSpelled, KeepsAllRules}
 use Rattle.gd_top.proofs.Plays.{IsKept, of_round, play_taken, plain_play, stage_small, drawn}
 

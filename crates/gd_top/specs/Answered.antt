@@ -2,7 +2,7 @@
 use Rattle.std.specs.Prelude.{ℕ, List, codes}
 use Rattle.gd_base.specs.declared.step.Numbered.{Numbered}
 use Rattle.gd_base.specs.declared.step.Stepped.{Stepped}
-use Rattle.gd_base.specs.Entry.{device_of}
+use Rattle.gd_base.specs.Histories.Entry.{device_of}
 use Rattle.gd_top.specs.Lines.{answer_line, step_line, full_line}
 
 -- the line of an answer, with the count of entries after it

@@ -9,18 +9,18 @@ use Rattle.gd_base.specs.declared.refusal.Reply.{Reply}
 use Rattle.gd_base.specs.declared.play.PlayRecord.{PlayRecord}
 use Rattle.gd_base.specs.declared.play.StageOpen.{StageOpen}
 use Rattle.gd_base.specs.declared.setup.Setup.{Setup}
-use Rattle.gd_base.specs.Credit.{credited_win, wager}
-use Rattle.gd_base.specs.History.{or_else}
-use Rattle.gd_base.specs.Numbers.{meter_place}
-use Rattle.gd_base.specs.Meters.{with_one, with_additions, win_additions, handpay_of_win}
-use Rattle.gd_base.specs.SoFar.{view_so_far, without_recall, is_reels, is_whole_so_far}
-use Rattle.gd_base.specs.Devices.{with_reply}
-use Rattle.gd_base.specs.Spelled.{Spelled, Shows, Unreadable}
-use Rattle.gd_base.specs.Stage.{is_bet}
-use Rattle.gd_base.specs.View.{View}
-use Rattle.gd_base.specs.ViewOf.{with_entry}
+use Rattle.gd_base.specs.Histories.Credit.{credited_win, wager}
+use Rattle.gd_base.specs.Histories.History.{or_else}
+use Rattle.gd_base.specs.Histories.Numbers.{meter_place}
+use Rattle.gd_base.specs.Histories.Meters.{with_one, with_additions, win_additions, handpay_of_win}
+use Rattle.gd_base.specs.Judging.SoFar.{view_so_far, without_recall, is_reels, is_whole_so_far}
+use Rattle.gd_base.specs.Histories.Devices.{with_reply}
+use Rattle.gd_base.specs.Payloads.Spelled.{Spelled, Shows, Unreadable}
+use Rattle.gd_base.specs.Games.Stage.{is_bet}
+use Rattle.gd_base.specs.Histories.View.{View}
+use Rattle.gd_base.specs.Histories.ViewOf.{with_entry}
 use Rattle.gd_play.specs.Moving.{phase_of}
-use Rattle.gd_base.specs.Blocks.{IsBlock}
+use Rattle.gd_base.specs.Outside.Blocks.{IsBlock}
 use Rattle.gd_top.specs.declared.first_core.books.Books.{Books}
 use Rattle.gd_top.specs.declared.first_core.reels_table.ReelsTable.{ReelsTable}
 

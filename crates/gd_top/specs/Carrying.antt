@@ -2,9 +2,9 @@
 -- stands, and of what it doesn't keep.
 use Rattle.std.specs.Prelude.{◌≡◌, ℕ, ◌+◌, ◌≤◌, true, false, List, [], ◌++◌, Option, None, Some}
 use Rattle.std.specs.Io.KnownBytes.{Appends}
-use Rattle.gd_base.specs.Causes.{AppendsFront}
-use Rattle.gd_base.specs.Entry.{Entry}
-use Rattle.gd_base.specs.Machine.{Machine, Blocks}
+use Rattle.gd_base.specs.Outside.Causes.{AppendsFront}
+use Rattle.gd_base.specs.Histories.Entry.{Entry}
+use Rattle.gd_base.specs.Judging.Machine.{Machine, Blocks}
 use Rattle.gd_base.specs.declared.step.Numbered.{Numbered}
 use Rattle.gd_cabinet.specs.Answered.{offered}
 use Rattle.gd_cabinet.specs.Shown.{ShowsEither}

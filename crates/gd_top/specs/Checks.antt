@@ -5,10 +5,10 @@ use Rattle.gd_base.specs.declared.payout.Handpay.{Handpay}
 use Rattle.gd_base.specs.declared.play.PlayRecord.{PlayRecord}
 use Rattle.gd_base.specs.declared.play.StageOpen.{StageOpen}
 use Rattle.gd_base.specs.declared.setup.Setup.{Setup}
-use Rattle.gd_base.specs.Rounds.{choices_of}
-use Rattle.gd_base.specs.SoFar.{is_plain}
-use Rattle.gd_base.specs.Spelling.{is_play_record, is_played, is_in, is_some_handpay, is_flagged_last, is_placed, not_both}
-use Rattle.gd_base.specs.Stage.{stage}
+use Rattle.gd_base.specs.Histories.Rounds.{choices_of}
+use Rattle.gd_base.specs.Judging.SoFar.{is_plain}
+use Rattle.gd_base.specs.Payloads.ViewRules.{is_play_record, is_played, is_in, is_some_handpay, is_flagged_last, is_placed, not_both}
+use Rattle.gd_base.specs.Games.Stage.{stage}
 use Rattle.gd_top.specs.declared.first_core.books.Books.{Books}
 
 -- the entries are at most the limit, the devices' numbers add up to them, and no count among the totals is above them

@@ -1,5 +1,5 @@
 -- The first core, as its view.
-use Rattle.gd_base.specs.View.{View}
+use Rattle.gd_base.specs.Histories.View.{View}
 use Rattle.gd_play.specs.Words.{machine_play}
 use Rattle.gd_top.specs.Books.{view_of}
 use Rattle.gd_top.specs.declared.first_core.FirstCore.{FirstCore}

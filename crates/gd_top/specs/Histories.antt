@@ -1,14 +1,14 @@
 -- What each legal history of what is built keeps.
 use Rattle.std.specs.Prelude.{◌≡◌, ℕ, IsTrue, List}
 use Rattle.gd_base.specs.declared.setup.Setup.{Setup}
-use Rattle.gd_base.specs.Blocks.{AreBlocks}
-use Rattle.gd_base.specs.Entry.{Entry}
-use Rattle.gd_base.specs.Legal.{IsLegal, view_over}
-use Rattle.gd_base.specs.Machine.{Blocks}
-use Rattle.gd_base.specs.Payload.{payload_of}
-use Rattle.gd_base.specs.SoFar.{machine_so_far, is_whole_so_far, spelled_so_far}
-use Rattle.gd_base.specs.Spelled.{Shows}
-use Rattle.gd_base.specs.View.{View}
+use Rattle.gd_base.specs.Outside.Blocks.{AreBlocks}
+use Rattle.gd_base.specs.Histories.Entry.{Entry}
+use Rattle.gd_base.specs.Judging.Legal.{IsLegal, view_over}
+use Rattle.gd_base.specs.Judging.Machine.{Blocks}
+use Rattle.gd_base.specs.Payloads.Bytes.{payload_of}
+use Rattle.gd_base.specs.Judging.SoFar.{machine_so_far, is_whole_so_far, spelled_so_far}
+use Rattle.gd_base.specs.Payloads.Spelled.{Shows}
+use Rattle.gd_base.specs.Histories.View.{View}
 
 -- a view that keeps all rules of a view, and that its payload spells
 abbrev pub IsSpelled : Setup → View → Type 0

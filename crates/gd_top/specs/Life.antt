@@ -1,9 +1,9 @@
 -- A whole run: its report, its status and what it leaves.
 use Rattle.std.specs.Prelude.{ℕ, ◌+◌, Bool, true, false, List, [], ◌∷◌, ◌++◌, codes, decimal, Option, Some}
 use Rattle.gd_base.specs.declared.step.What.{What}
-use Rattle.gd_base.specs.Machine.{Machine, Blocks}
-use Rattle.gd_base.specs.Opens.{opens}
-use Rattle.gd_base.specs.Spelled.{Spelled, Shows, Foreign, Unreadable}
+use Rattle.gd_base.specs.Judging.Machine.{Machine, Blocks}
+use Rattle.gd_base.specs.Payloads.LoadedView.{opens}
+use Rattle.gd_base.specs.Payloads.Spelled.{Spelled, Shows, Foreign, Unreadable}
 use Rattle.gd_script.specs.declared.item.Item.{Item}
 use Rattle.gd_store.specs.declared.copy.CopyState.{CopyState}
 use Rattle.gd_top.specs.declared.status.Status.{Status}

@@ -2,7 +2,7 @@
 use Rattle.std.specs.Prelude.{ℕ, ◌+◌, ◌/◌, ◌%◌, nat_lt, Bool, true, false, if◌then◌else◌, List, [], ◌∷◌, ◌++◌, codes, decimal, flat_map}
 use Rattle.gd_base.specs.declared.device.Device.{Device}
 use Rattle.gd_base.specs.declared.refusal.Reply.{Reply}
-use Rattle.gd_base.specs.Names.{device_name, reply_text}
+use Rattle.gd_base.specs.Texts.Names.{device_name, reply_text}
 use Rattle.gd_script.specs.declared.item.Side.{Side}
 use Rattle.gd_store.specs.declared.found.Found.{Found}
 use Rattle.gd_store.specs.declared.copy.CopyState.{CopyState}

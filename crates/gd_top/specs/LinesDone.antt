@@ -1,7 +1,7 @@
 -- How far the lines of a script have come, and how they ended. What lines tell is a parameter: lines alone, or a whole run.
 use Rattle.std.specs.Prelude.{ℕ, ◌≡◌, ◌⊎◌, List, [], ◌∷◌, ◌++◌, IfSome, Option}
 use Rattle.std.specs.Io.KnownBytes.{Consumes}
-use Rattle.gd_base.specs.Machine.{Machine, Blocks}
+use Rattle.gd_base.specs.Judging.Machine.{Machine, Blocks}
 use Rattle.gd_disk.specs.Disk.{DiskState}
 use Rattle.gd_script.specs.declared.item.Item.{Item}
 use Rattle.gd_top.specs.declared.lines_end.LinesEnd.{LinesEnd}

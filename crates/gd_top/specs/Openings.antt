@@ -4,12 +4,12 @@ use Rattle.std.specs.List.{list_any}
 use Rattle.gd_base.specs.declared.event.Event.{Event}
 use Rattle.gd_base.specs.declared.step.Numbered.{Numbered}
 use Rattle.gd_base.specs.declared.step.Stepped.{Stepped}
-use Rattle.gd_base.specs.Answer.{answer, entry_of, is_full}
-use Rattle.gd_base.specs.Entry.{Entry, device_of}
-use Rattle.gd_base.specs.Legal.{next_entry}
-use Rattle.gd_base.specs.Machine.{Machine, Blocks}
-use Rattle.gd_base.specs.Opens.{opens}
-use Rattle.gd_base.specs.Spelled.{Spelled, Shows, Foreign, Unreadable}
+use Rattle.gd_base.specs.Judging.Answer.{answer, entry_of, is_full}
+use Rattle.gd_base.specs.Histories.Entry.{Entry, device_of}
+use Rattle.gd_base.specs.Judging.Legal.{next_entry}
+use Rattle.gd_base.specs.Judging.Machine.{Machine, Blocks}
+use Rattle.gd_base.specs.Payloads.LoadedView.{opens}
+use Rattle.gd_base.specs.Payloads.Spelled.{Spelled, Shows, Foreign, Unreadable}
 use Rattle.gd_script.specs.declared.item.Side.{Side}
 use Rattle.gd_store.specs.declared.found.Found.{Found}
 use Rattle.gd_store.specs.Repair.{Repair, repaired, syncs_of_repair}

@@ -1,8 +1,8 @@
 -- A memory between two lines, and what a part of a run leaves of it.
 use Rattle.std.specs.Prelude.{◌≡◌, ◌≤◌, ℕ, Bool, true, false, List, [], Option, None, Some}
 use Rattle.std.specs.Io.KnownBytes.{Appends}
-use Rattle.gd_base.specs.Causes.{AppendsFront, Rose}
-use Rattle.gd_base.specs.Machine.{Machine}
+use Rattle.gd_base.specs.Outside.Causes.{AppendsFront, Rose}
+use Rattle.gd_base.specs.Judging.Machine.{Machine}
 use Rattle.gd_cabinet.specs.Shown.{IsInBoth}
 use Rattle.gd_disk.specs.Disk.{DiskState}
 use Rattle.gd_disk.specs.declared.lengths.TheConstants.{DISK_LEN}

@@ -3,9 +3,9 @@ use Rattle.std.specs.Prelude.{ℕ, ◌+◌, Bool, true, false, if◌then◌else�
 use Rattle.gd_base.specs.declared.event.Event.{Event}
 use Rattle.gd_base.specs.declared.step.Numbered.{Numbered}
 use Rattle.gd_base.specs.declared.step.What.{What}
-use Rattle.gd_base.specs.Entry.{device_of}
-use Rattle.gd_base.specs.Machine.{Machine}
-use Rattle.gd_base.specs.SoFar.{is_reels}
+use Rattle.gd_base.specs.Histories.Entry.{device_of}
+use Rattle.gd_base.specs.Judging.Machine.{Machine}
+use Rattle.gd_base.specs.Judging.SoFar.{is_reels}
 use Rattle.gd_script.specs.declared.item.Item.{Item}
 use Rattle.gd_top.specs.declared.step.Step.{Step}
 use Rattle.gd_top.specs.Carrying.{Standing}

@@ -1,7 +1,7 @@
 -- What the power-ons find.
 use Rattle.std.specs.Prelude.{◌≡◌, ℕ, List, All, map}
-use Rattle.gd_base.specs.Machine.{Machine}
-use Rattle.gd_base.specs.Spelled.{Shows}
+use Rattle.gd_base.specs.Judging.Machine.{Machine}
+use Rattle.gd_base.specs.Payloads.Spelled.{Shows}
 use Rattle.gd_cabinet.specs.Shown.{shows, spelled_boot}
 use Rattle.gd_disk.specs.Disk.{DiskState}
 use Rattle.gd_store.specs.Copy.{boots, found_in}

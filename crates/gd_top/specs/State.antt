@@ -4,9 +4,9 @@
 -- the script, `starts` (what each power-on found) and `falls` (in which offers a cut that counts calls came). The machine
 -- beneath is a record of functions over a type of views.
 use Rattle.std.specs.Prelude.{ℕ, Bool, true, false, List, [], ◌∷◌, ◌++◌, Option}
-use Rattle.gd_base.specs.Entry.{Entry}
-use Rattle.gd_base.specs.Machine.{Machine}
-use Rattle.gd_base.specs.Spelled.{Spelled}
+use Rattle.gd_base.specs.Histories.Entry.{Entry}
+use Rattle.gd_base.specs.Judging.Machine.{Machine}
+use Rattle.gd_base.specs.Payloads.Spelled.{Spelled}
 use Rattle.gd_disk.specs.Waits.{Waits}
 use Rattle.gd_script.specs.declared.item.Side.{Side}
 use Rattle.gd_store.specs.declared.found.Found.{Found}

@@ -4,9 +4,9 @@ use Rattle.gd_base.specs.declared.device.Device.{Device}
 use Rattle.gd_base.specs.declared.event.Event.{Event}
 use Rattle.gd_base.specs.declared.refusal.Refusal.{Refusal}
 use Rattle.gd_base.specs.declared.refusal.Reply.{Reply}
-use Rattle.gd_base.specs.Machine.{Machine, Blocks}
-use Rattle.gd_base.specs.Spelled.{Unreadable}
-use Rattle.gd_base.specs.TheMachine.{number_itself, both_hold}
+use Rattle.gd_base.specs.Judging.Machine.{Machine, Blocks}
+use Rattle.gd_base.specs.Payloads.Spelled.{Unreadable}
+use Rattle.gd_base.specs.Judging.Product.{number_itself, both_hold}
 
 pub record View : Type 0 where
   pub count : ℕ

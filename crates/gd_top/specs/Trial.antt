@@ -4,8 +4,8 @@ use Rattle.std.specs.Prelude.{◌≡◌, ◌⊎◌, ℕ, ◌+◌, Bool, true, fa
 use Rattle.std.specs.Io.KnownBytes.{Appends, Consumes}
 use Rattle.std.specs.Borrow.{Bor}
 use Rattle.std.specs.Str.{bytes_eq}
-use Rattle.gd_base.specs.Causes.{AppendsFront, Rose}
-use Rattle.gd_base.specs.Machine.{Machine, Blocks}
+use Rattle.gd_base.specs.Outside.Causes.{AppendsFront, Rose}
+use Rattle.gd_base.specs.Judging.Machine.{Machine, Blocks}
 use Rattle.gd_cabinet.specs.Shown.{IsInBoth}
 use Rattle.gd_disk.specs.Disk.{DiskState, IsSynced}
 use Rattle.gd_script.specs.declared.item.Item.{Item}

@@ -2,7 +2,7 @@
 
 ghost use Rattle.std.specs.Prelude.{◌≡◌, ◌++◌, [], OnOk, OnErr, IfNone, option_to_list};
 ghost use Rattle.std.specs.Io.KnownBytes.{Consumes, Keeps, IsAtEnd};
-ghost use Rattle.gd_base.specs.Causes.{HasCause};
+ghost use Rattle.gd_base.specs.Outside.Causes.{HasCause};
 
 use gd_base::{Failed, Source};
 use std::marker::Model;

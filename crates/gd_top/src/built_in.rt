@@ -1,7 +1,7 @@
 //! The setup that holds where none is given.
 
 ghost use Rattle.std.specs.Prelude.{◌≡◌};
-ghost use Rattle.gd_base.specs.BuiltIn.{built_in_setup};
+ghost use Rattle.gd_base.specs.Setups.BuiltIn.{built_in_setup};
 
 use gd_base::{PRIZES, REEL_PAYS, STRIPS, Setup};
 

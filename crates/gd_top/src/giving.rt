@@ -1,7 +1,7 @@
 //! A text that is given to the sink.
 
 ghost use Rattle.std.specs.Prelude.{◌≡◌, ◌≤◌};
-ghost use Rattle.gd_base.specs.Causes.{Rose};
+ghost use Rattle.gd_base.specs.Outside.Causes.{Rose};
 ghost use Rattle.gd_top.specs.Carrying.{GivesText};
 
 use crate::step::Step;

@@ -1,8 +1,8 @@
 //! The last line of a report, and the status that goes with it.
 
 ghost use Rattle.std.specs.Prelude.{◌≡◌, ◌≤◌, ◌⊎◌, ℕ, []};
-ghost use Rattle.gd_base.specs.Causes.{Rose};
-ghost use Rattle.gd_base.specs.SoFar.{machine_so_far};
+ghost use Rattle.gd_base.specs.Outside.Causes.{Rose};
+ghost use Rattle.gd_base.specs.Judging.SoFar.{machine_so_far};
 ghost use Rattle.gd_top.specs.Core.{core_view};
 ghost use Rattle.gd_top.specs.Carrying.{standing};
 ghost use Rattle.gd_top.specs.Life.{end_line, end_status};

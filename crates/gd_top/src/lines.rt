@@ -2,7 +2,7 @@
 
 ghost use Rattle.std.specs.Prelude.{◌≡◌, ◌≤◌, ◌++◌, [], ◌∷◌, length, IfOk, OnErr, OnOk, IfNone, option_to_list};
 ghost use Rattle.std.specs.Io.KnownBytes.{Consumes, IsAtEnd, prepend_known};
-ghost use Rattle.gd_base.specs.Causes.{HasCause};
+ghost use Rattle.gd_base.specs.Outside.Causes.{HasCause};
 ghost use Rattle.gd_top.specs.Script.{HasNoEnd};
 ghost use Rattle.gd_top.specs.Reads.{TakesLine};
 

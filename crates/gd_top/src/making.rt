@@ -1,7 +1,7 @@
 //! The making of an empty memory, at the beginning of a trial.
 
 ghost use Rattle.std.specs.Prelude.{◌≡◌, true, [], IfOk, IfErr, List, ℕ};
-ghost use Rattle.gd_base.specs.Spelled.{Shows};
+ghost use Rattle.gd_base.specs.Payloads.Spelled.{Shows};
 ghost use Rattle.gd_disk.specs.Disk.{Rose};
 ghost use Rattle.gd_store.specs.Words.{room_payload};
 ghost use Rattle.gd_top.specs.Running.{IsClosed};

@@ -1,7 +1,7 @@
 //! The power, turned on and off by a line.
 
 ghost use Rattle.std.specs.Prelude.{◌≡◌, ◌<◌, ◌++◌, ℕ};
-ghost use Rattle.gd_base.specs.Answer.{is_full};
+ghost use Rattle.gd_base.specs.Judging.Answer.{is_full};
 ghost use Rattle.gd_cabinet.specs.Words.{cabinet_core, cabinet_disk, cabinet_draws, cabinet_lap, cabinet_stopped};
 ghost use Rattle.gd_script.specs.declared.item.Item.{Item};
 ghost use Rattle.gd_store.specs.Repair.{repaired};

@@ -1,8 +1,8 @@
 //! What holds of every history, as clauses that callers can cite. Each function has a contract alone.
 
 ghost use Rattle.std.specs.Prelude.{ℕ, List};
-ghost use Rattle.gd_base.specs.Machine.{Blocks};
-ghost use Rattle.gd_base.specs.SoFar.{machine_so_far};
+ghost use Rattle.gd_base.specs.Judging.Machine.{Blocks};
+ghost use Rattle.gd_base.specs.Judging.SoFar.{machine_so_far};
 ghost use Rattle.gd_top.specs.Histories.{KeepsAllRules};
 ghost use Rattle.gd_top.specs.Legal.{OneLegalHistory};
 

@@ -1,7 +1,7 @@
 //! The lines of a script, carried out one after another.
 
 ghost use Rattle.std.specs.Prelude.{◌≡◌, ◌≤◌, ℕ};
-ghost use Rattle.gd_base.specs.Causes.{Rose};
+ghost use Rattle.gd_base.specs.Outside.Causes.{Rose};
 ghost use Rattle.gd_top.specs.Carrying.{outside, standing};
 ghost use Rattle.gd_top.specs.LinesDone.{LinesDone, step_of};
 ghost use Rattle.gd_top.specs.Running.{Leaves, Stands, Wrote};

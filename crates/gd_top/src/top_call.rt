@@ -2,9 +2,9 @@
 
 ghost use Rattle.std.specs.Prelude.{◌≡◌, ◌≢◌, ◌⊎◌, ◌≤◌, true, false, [], List, ℕ, All, IfSome};
 ghost use Rattle.std.specs.Io.KnownBytes.{Appends};
-ghost use Rattle.gd_base.specs.BuiltIn.{built_in_setup};
-ghost use Rattle.gd_base.specs.Causes.{Rose};
-ghost use Rattle.gd_base.specs.SoFar.{machine_so_far};
+ghost use Rattle.gd_base.specs.Setups.BuiltIn.{built_in_setup};
+ghost use Rattle.gd_base.specs.Outside.Causes.{Rose};
+ghost use Rattle.gd_base.specs.Judging.SoFar.{machine_so_far};
 ghost use Rattle.gd_top.specs.Starts.{IsShown};
 ghost use Rattle.gd_top.specs.Trial.{is_trial, no_memory_text, usage_text, GivesLast, WroteBroken, WroteFront, WroteReport, WroteToFault, WroteFrontOf, CabinetDone, IsBuilt, IsUnopened, told_status};
 

@@ -1,8 +1,8 @@
 //! A trial, from its memory on.
 
 ghost use Rattle.std.specs.Prelude.{◌≡◌, ◌≤◌, ◌⊎◌, true, [], ℕ, IfSome, codes, All};
-ghost use Rattle.gd_base.specs.Causes.{Rose};
-ghost use Rattle.gd_base.specs.SoFar.{machine_so_far};
+ghost use Rattle.gd_base.specs.Outside.Causes.{Rose};
+ghost use Rattle.gd_base.specs.Judging.SoFar.{machine_so_far};
 ghost use Rattle.gd_top.specs.Core.{core_view};
 ghost use Rattle.gd_top.specs.Carrying.{outside, standing};
 ghost use Rattle.gd_top.specs.LinesDone.{RunEnded, step_of};

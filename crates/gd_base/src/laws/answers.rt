@@ -1,8 +1,8 @@
 //! When each answer comes.
 
 ghost use Rattle.gd_base.specs.declared.step.Numbered.{Numbered};
-ghost use Rattle.gd_base.specs.Exact.{AnswersExactly};
-ghost use Rattle.gd_base.specs.Machine.{Machine};
+ghost use Rattle.gd_base.specs.Laws.Exact.{AnswersExactly};
+ghost use Rattle.gd_base.specs.Judging.Machine.{Machine};
 
 use crate::machine_core::Core;
 

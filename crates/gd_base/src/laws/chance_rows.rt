@@ -1,6 +1,6 @@
 //! Worked rows of what the words of a play decide.
 
-ghost use Rattle.gd_base.specs.ChanceRows.{Hands, LeastWords, LineRows, Straights, TableRows, Windows};
+ghost use Rattle.gd_base.specs.Examples.Chance.{Hands, LeastWords, LineRows, Straights, TableRows, Windows};
 
 /// The tables, and words, windows, lines, prizes and hands of the rows, are as `specs/ChanceRows` has them.
 pub fn computed()

@@ -1,6 +1,6 @@
 //! Worked rows as histories.
 
-ghost use Rattle.gd_base.specs.HistoryRows.{OneBill, RollsOver, Pick, Vouchers, RoyalFlush, HopperRunsEmpty, AceLow, Gambles, Evening, CancelledCredit};
+ghost use Rattle.gd_base.specs.Examples.Histories.{OneBill, RollsOver, Pick, Vouchers, RoyalFlush, HopperRunsEmpty, AceLow, Gambles, Evening, CancelledCredit};
 
 /// Replies, totals and balances of the rows are as `specs/HistoryRows` has them.
 pub fn computed()

@@ -2,13 +2,13 @@
 
 ghost use Rattle.std.specs.Prelude.{◌≡◌, List, ◌∷◌};
 ghost use Rattle.gd_base.specs.declared.setup.Setup.{Setup};
-ghost use Rattle.gd_base.specs.Entry.{Entry};
-ghost use Rattle.gd_base.specs.Indexes.{RiseSoFar};
-ghost use Rattle.gd_base.specs.Legal.{view_over};
-ghost use Rattle.gd_base.specs.SoFar.{machine_so_far, without_recall};
-ghost use Rattle.gd_base.specs.TellsViews.{TellsViewsSoFar};
-ghost use Rattle.gd_base.specs.View.{View};
-ghost use Rattle.gd_base.specs.ViewOf.{view_after, from_view};
+ghost use Rattle.gd_base.specs.Histories.Entry.{Entry};
+ghost use Rattle.gd_base.specs.Laws.Indexes.{RiseSoFar};
+ghost use Rattle.gd_base.specs.Judging.Legal.{view_over};
+ghost use Rattle.gd_base.specs.Judging.SoFar.{machine_so_far, without_recall};
+ghost use Rattle.gd_base.specs.Laws.TellsViews.{TellsViewsSoFar};
+ghost use Rattle.gd_base.specs.Histories.View.{View};
+ghost use Rattle.gd_base.specs.Histories.ViewOf.{view_after, from_view};
 
 /// Its view is that of the whole history by sums, without recall.
 pub fn whole_history()

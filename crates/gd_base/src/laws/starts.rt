@@ -4,9 +4,9 @@ ghost use Rattle.std.specs.Prelude.{◌≡◌, false};
 ghost use Rattle.gd_base.specs.declared.event.Event.{Event};
 ghost use Rattle.gd_base.specs.declared.refusal.Reply.{Reply};
 ghost use Rattle.gd_base.specs.declared.setup.Setup.{Setup};
-ghost use Rattle.gd_base.specs.Draws.{is_drawn};
-ghost use Rattle.gd_base.specs.Rule.{rule};
-ghost use Rattle.gd_base.specs.View.{View};
+ghost use Rattle.gd_base.specs.Judging.Draws.{is_drawn};
+ghost use Rattle.gd_base.specs.Judging.Rule.{rule};
+ghost use Rattle.gd_base.specs.Histories.View.{View};
 
 /// A start is taken whatever stands open, and draws nothing.
 pub fn always_taken()

@@ -1,6 +1,6 @@
 //! Worked rows of texts.
 
-ghost use Rattle.gd_base.specs.TextRows.{MetersText, States, Orders, Recalls, Logs};
+ghost use Rattle.gd_base.specs.Examples.Texts.{MetersText, States, Orders, Recalls, Logs};
 
 /// The texts of the rows are as `specs/TextRows` has them.
 pub fn computed()

@@ -2,7 +2,7 @@
 
 ghost use Rattle.std.specs.Prelude.{◌≡◌, ◌+◌, ◌<◌, ◌^◌, Option, slice_index};
 ghost use Rattle.gd_base.specs.declared.play.PlayRecord.{PlayRecord as PlayData};
-ghost use Rattle.gd_base.specs.Spelling.{held_in, income as income_of, outgo as outgo_of, is_balanced};
+ghost use Rattle.gd_base.specs.Payloads.ViewRules.{held_in, income as income_of, outgo as outgo_of, is_balanced};
 ghost use Rattle.gd_top.specs.Books.{view_of};
 
 use super::books::Books;

@@ -1,8 +1,8 @@
 //! What is kept of a history of bills, plays of the reels and starts, beside the open play.
 
 ghost use Rattle.std.specs.Prelude.{◌≡◌, ◌+◌, ◌<◌, ◌^◌, slice_index, replicate, None};
-ghost use Rattle.gd_base.specs.Numbers.{meter_place};
-ghost use Rattle.gd_base.specs.Meters.{with_one};
+ghost use Rattle.gd_base.specs.Histories.Numbers.{meter_place};
+ghost use Rattle.gd_base.specs.Histories.Meters.{with_one};
 
 use gd_base::{Handpay, Meter, Reply};
 

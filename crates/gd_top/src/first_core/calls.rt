@@ -1,12 +1,12 @@
 //! The first core's calls.
 
 ghost use Rattle.std.specs.Prelude.{◌≡◌, ◌≤◌, ◌^◌};
-ghost use Rattle.gd_base.specs.Answer.{answer, is_new};
-ghost use Rattle.gd_base.specs.Devices.{kept_at};
-ghost use Rattle.gd_base.specs.Numbers.{device_place};
-ghost use Rattle.gd_base.specs.SoFar.{machine_so_far};
-ghost use Rattle.gd_base.specs.View.{View};
-ghost use Rattle.gd_base.specs.ViewCode.{coded_view};
+ghost use Rattle.gd_base.specs.Judging.Answer.{answer, is_new};
+ghost use Rattle.gd_base.specs.Histories.Devices.{kept_at};
+ghost use Rattle.gd_base.specs.Histories.Numbers.{device_place};
+ghost use Rattle.gd_base.specs.Judging.SoFar.{machine_so_far};
+ghost use Rattle.gd_base.specs.Histories.View.{View};
+ghost use Rattle.gd_base.specs.Payloads.ViewCode.{coded_view};
 ghost use Rattle.gd_play.specs.Words.{machine_play};
 ghost use Rattle.gd_top.specs.Books.{view_of};
 

@@ -3,10 +3,10 @@
 ghost use Rattle.std.specs.Prelude.{◌≡◌, ◌&&◌, IsTrue, Option, length, IfSome};
 ghost use Rattle.std.specs.Bool.{OnTrue};
 ghost use Rattle.gd_base.specs.declared.play.PlayRecord.{PlayRecord as PlayData};
-ghost use Rattle.gd_base.specs.Payload.{payload_of};
-ghost use Rattle.gd_base.specs.SoFar.{is_whole_so_far, spelled_so_far};
-ghost use Rattle.gd_base.specs.Spelling.{is_balanced, is_choice_value, open_is};
-ghost use Rattle.gd_base.specs.TheMachine.{same_numbers};
+ghost use Rattle.gd_base.specs.Payloads.Bytes.{payload_of};
+ghost use Rattle.gd_base.specs.Judging.SoFar.{is_whole_so_far, spelled_so_far};
+ghost use Rattle.gd_base.specs.Payloads.ViewRules.{is_balanced, is_choice_value, open_is};
+ghost use Rattle.gd_base.specs.Judging.Product.{same_numbers};
 ghost use Rattle.gd_top.specs.Books.{view_of, spelled_by};
 ghost use Rattle.gd_top.specs.Checks.{are_counts, is_one_of, is_open_at};
 

@@ -2,7 +2,7 @@
 
 ghost use Rattle.std.specs.Prelude.{◌≡◌, ◌+◌, ◌==◌, drop, nat_le, sum_by};
 ghost use Rattle.std.specs.List.{list_all};
-ghost use Rattle.gd_base.specs.Spelling.{is_flagged_last};
+ghost use Rattle.gd_base.specs.Payloads.ViewRules.{is_flagged_last};
 ghost use Rattle.gd_top.specs.Checks.{are_counts};
 
 use super::books::Books;

@@ -1,8 +1,8 @@
 //! Doubling a win by the colour of a card.
 
 ghost use Rattle.std.specs.Prelude.{◌≡◌, ◌≤◌};
-ghost use Rattle.gd_base.specs.Chance.{is_red as is_red_of};
-ghost use Rattle.gd_base.specs.Stage.{gamble_card, is_right as is_right_of, win_after as win_after_of, gamble_stage as gamble_stage_of};
+ghost use Rattle.gd_base.specs.Games.Chance.{is_red as is_red_of};
+ghost use Rattle.gd_base.specs.Games.Stage.{gamble_card, is_right as is_right_of, win_after as win_after_of, gamble_stage as gamble_stage_of};
 
 use gd_base::{Block, Setup, Stage, StageOpen, pick};
 

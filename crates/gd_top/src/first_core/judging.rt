@@ -4,8 +4,8 @@ ghost use Rattle.std.specs.Prelude.{◌≡◌, ◌<◌, ◌*◌, ◌^◌, is_som
 ghost use Rattle.gd_base.specs.declared.event.Event.{Event};
 ghost use Rattle.gd_base.specs.declared.game.Game.{Game};
 ghost use Rattle.gd_base.specs.declared.play.PlayRecord.{PlayRecord};
-ghost use Rattle.gd_base.specs.Credit.{wager as wager_of};
-ghost use Rattle.gd_base.specs.Rule.{is_bill, rule};
+ghost use Rattle.gd_base.specs.Histories.Credit.{wager as wager_of};
+ghost use Rattle.gd_base.specs.Judging.Rule.{is_bill, rule};
 ghost use Rattle.gd_top.specs.Books.{view_of};
 
 use super::books::Books;

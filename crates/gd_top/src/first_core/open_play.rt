@@ -3,9 +3,9 @@
 ghost use Rattle.std.specs.Prelude.{◌≡◌, ◌^◌, IsTrue, true, nat_lt};
 ghost use Rattle.std.specs.List.{list_all};
 ghost use Rattle.gd_base.specs.declared.game.Game.{Game};
-ghost use Rattle.gd_base.specs.Rounds.{choices_of};
-ghost use Rattle.gd_base.specs.Spelling.{is_placed, all_true, is_choice_value};
-ghost use Rattle.gd_base.specs.Stage.{has_pick as has_pick_of, are_choices, is_bet, is_choice};
+ghost use Rattle.gd_base.specs.Histories.Rounds.{choices_of};
+ghost use Rattle.gd_base.specs.Payloads.ViewRules.{is_placed, all_true, is_choice_value};
+ghost use Rattle.gd_base.specs.Games.Stage.{has_pick as has_pick_of, are_choices, is_bet, is_choice};
 ghost use Rattle.gd_top.specs.Checks.{is_going_on, is_open_at, is_plain_record, is_staged, number_widths, words_widths};
 
 use super::reels_table::reels_stage;

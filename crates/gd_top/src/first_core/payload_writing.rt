@@ -1,9 +1,9 @@
 //! The payload of a view so far, written.
 
 ghost use Rattle.std.specs.Prelude.{◌≡◌, ◌≤◌, ◌+◌, ◌*◌, [], ◌∷◌, ◌++◌, length, replicate, flat_map, None, IsTrue, IfSome, option_copied};
-ghost use Rattle.gd_base.specs.Payload.{four, eight, kept_bytes, reply_kind, reply_refusal, reply_condition, handpay_bytes, choice_code, play_bytes, open_bytes, head_bytes, filled, payload_of};
-ghost use Rattle.gd_base.specs.Numbers.{refusal_number, refusal_condition, condition_number, game_number};
-ghost use Rattle.gd_base.specs.Spelling.{is_choice_value};
+ghost use Rattle.gd_base.specs.Payloads.Bytes.{four, eight, kept_bytes, reply_kind, reply_refusal, reply_condition, handpay_bytes, choice_code, play_bytes, open_bytes, head_bytes, filled, payload_of};
+ghost use Rattle.gd_base.specs.Histories.Numbers.{refusal_number, refusal_condition, condition_number, game_number};
+ghost use Rattle.gd_base.specs.Payloads.ViewRules.{is_choice_value};
 ghost use Rattle.gd_top.specs.Books.{view_of, put_at};
 
 use super::books::Books;

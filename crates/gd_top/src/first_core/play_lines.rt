@@ -4,11 +4,11 @@ ghost use Rattle.std.specs.Prelude.{◌≡◌, ◌≤◌, ◌+◌, ◌++◌, ◌
 ghost use Rattle.std.specs.List.{list_all};
 ghost use Rattle.arrayvec.specs.ArrayString.{array_string_len};
 ghost use Rattle.gd_base.specs.declared.game.Game.{Game};
-ghost use Rattle.gd_base.specs.Rounds.{choices_of};
-ghost use Rattle.gd_base.specs.SetupRules.{are_strips, is_letter};
-ghost use Rattle.gd_base.specs.Spelling.{is_choice_value, open_is};
-ghost use Rattle.gd_base.specs.Stage.{stage};
-ghost use Rattle.gd_base.specs.Texts.{lines_of_open, open_lines, pick_line, play_head, spaced, stage_line};
+ghost use Rattle.gd_base.specs.Histories.Rounds.{choices_of};
+ghost use Rattle.gd_base.specs.Setups.SetupRules.{are_strips, is_letter};
+ghost use Rattle.gd_base.specs.Payloads.ViewRules.{is_choice_value, open_is};
+ghost use Rattle.gd_base.specs.Games.Stage.{stage};
+ghost use Rattle.gd_base.specs.Texts.OfViews.{lines_of_open, open_lines, pick_line, play_head, spaced, stage_line};
 ghost use Rattle.gd_top.specs.Checks.{is_in_order};
 
 use super::reels_table::reels_stage;

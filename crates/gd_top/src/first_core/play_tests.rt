@@ -1,7 +1,7 @@
 // Plays of the reels through the machine of one play: what they come to, and what is refused.
 ghost use Rattle.std.specs.Prelude.{◌≡◌, ◌≤◌};
 ghost use Rattle.gd_base.specs.declared.game.Game.{Game};
-ghost use Rattle.gd_base.specs.Rounds.{choices_of, no_choices};
+ghost use Rattle.gd_base.specs.Histories.Rounds.{choices_of, no_choices};
 
 use super::reels_table::ReelsTable;
 use crate::built_in::built_in;

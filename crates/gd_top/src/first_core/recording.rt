@@ -2,10 +2,10 @@
 
 ghost use Rattle.std.specs.Prelude.{◌≡◌, ◌+◌, ◌<◌, ◌^◌, length, nat_lt, true};
 ghost use Rattle.std.specs.List.{list_all};
-ghost use Rattle.gd_base.specs.Devices.{kept_at};
-ghost use Rattle.gd_base.specs.Entry.{device_of};
-ghost use Rattle.gd_base.specs.Numbers.{device_place};
-ghost use Rattle.gd_base.specs.Devices.{with_reply};
+ghost use Rattle.gd_base.specs.Histories.Devices.{kept_at};
+ghost use Rattle.gd_base.specs.Histories.Entry.{device_of};
+ghost use Rattle.gd_base.specs.Histories.Numbers.{device_place};
+ghost use Rattle.gd_base.specs.Histories.Devices.{with_reply};
 ghost use Rattle.gd_top.specs.Books.{AreWords, with_note};
 
 use super::books::Books;

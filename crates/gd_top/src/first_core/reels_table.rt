@@ -2,8 +2,8 @@
 
 ghost use Rattle.std.specs.Prelude.{◌≡◌, ◌≤◌, ◌*◌, IsTrue, IfSome};
 ghost use Rattle.gd_base.specs.declared.game.Game.{Game};
-ghost use Rattle.gd_base.specs.Chance.{line_wins as line_wins_of};
-ghost use Rattle.gd_base.specs.Stage.{base_win as base_win_of, stage, is_bet, is_choice, are_choices};
+ghost use Rattle.gd_base.specs.Games.Chance.{line_wins as line_wins_of};
+ghost use Rattle.gd_base.specs.Games.Stage.{base_win as base_win_of, stage, is_bet, is_choice, are_choices};
 
 use super::gambling::{gamble_stage, win_after};
 use gd_base::{Block, Choices, Game, Setup, Stage, StageOpen};
@@ -17,7 +17,7 @@ pub(crate) struct ReelsTable {
 }
 
 impl Paytable for ReelsTable {
-    ghost use Rattle.gd_base.specs.SoFar.{is_reels};
+    ghost use Rattle.gd_base.specs.Judging.SoFar.{is_reels};
 
     ghost setup = { λ t. t.setup };
 

@@ -2,11 +2,11 @@
 
 ghost use Rattle.std.specs.Prelude.{◌≡◌, ◌≤◌, ◌+◌, ◌++◌, IsTrue, None, codes, option_copied};
 ghost use Rattle.arrayvec.specs.ArrayString.{array_string_len};
-ghost use Rattle.gd_base.specs.Conditions.{lock};
-ghost use Rattle.gd_base.specs.SoFar.{is_whole_so_far};
-ghost use Rattle.gd_base.specs.Spelling.{open_is};
-ghost use Rattle.gd_base.specs.Texts.{condition_text, handpay_text, state_text};
-ghost use Rattle.gd_base.specs.TheMachine.{text};
+ghost use Rattle.gd_base.specs.Histories.Conditions.{lock};
+ghost use Rattle.gd_base.specs.Judging.SoFar.{is_whole_so_far};
+ghost use Rattle.gd_base.specs.Payloads.ViewRules.{open_is};
+ghost use Rattle.gd_base.specs.Texts.OfViews.{condition_text, handpay_text, state_text};
+ghost use Rattle.gd_base.specs.Judging.Product.{text};
 ghost use Rattle.gd_top.specs.Books.{view_of};
 ghost use Rattle.gd_top.specs.Checks.{is_in_order};
 

@@ -1,5 +1,5 @@
 use Rattle.std.proofs.Common.{ℕ, ◌<◌, replicate, get_or}
-use Rattle.gd_base.specs.Blocks.{IsBlock}
+use Rattle.gd_base.specs.Outside.Blocks.{IsBlock}
 use Rattle.gd_base.proofs.listing.all_fit.Given as goal
 
 abbrev pub invariant-loop-i : goal.invariant-loop-i

@@ -1,7 +1,7 @@
 use Rattle.std.proofs.Common.{arith, ℕ, suc, ◌≡◌, ◌^◌, ◌<◌, nat_lt, true, List, [], ◌∷◌, get_or, refl}
 use Rattle.std.specs.List.{list_all}
-use Rattle.gd_base.specs.TheMachine.{both_hold}
-use Rattle.gd_base.proofs.Rules.{is_below}
+use Rattle.gd_base.specs.Judging.Product.{both_hold}
+use Rattle.gd_base.proofs.BoolTests.{is_below}
 use Rattle.gd_base.proofs.listing.fits.Goals as goal
 
 each_below : (xs : List ℕ) → ((i : ℕ) → get_or xs i 0 < 2 ^ 64) → list_all (λ w. nat_lt w (2 ^ 64)) xs ≡ true

@@ -2,9 +2,9 @@ use Rattle.std.proofs.Common.{rules, ◌≡◌, ℕ, ◌+◌, ◌*◌, ◌<◌, 
 use Rattle.std.proofs.lemmas.List.{take_more_set}
 use Rattle.rand_core.specs.Steps.{u64_via_u32}
 use Rattle.rand_chacha.specs.ChaCha.{ChaCha, next_word}
-use Rattle.gd_base.specs.KeyStream.{seeded_word}
-use Rattle.gd_base.specs.Tables.{numbers}
-use Rattle.gd_base.proofs.KeyStream.{placed, placed-next, map-more}
+use Rattle.gd_base.specs.Outside.KeyStream.{seeded_word}
+use Rattle.gd_base.specs.Setups.Tables.{numbers}
+use Rattle.gd_base.proofs.OutsideLemmas.KeyStream.{placed, placed-next, map-more}
 use Rattle.gd_base.proofs.seeded.block_at.Goals as goal
 
 pub loop-i-preserved : goal.loop-i-preserved

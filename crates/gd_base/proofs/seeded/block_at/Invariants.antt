@@ -1,7 +1,7 @@
 use Rattle.std.proofs.Common.{◌≡◌, ◌+◌, ◌*◌, length, take, map}
-use Rattle.gd_base.specs.KeyStream.{seeded_word}
-use Rattle.gd_base.specs.Tables.{numbers}
-use Rattle.gd_base.proofs.KeyStream.{placed}
+use Rattle.gd_base.specs.Outside.KeyStream.{seeded_word}
+use Rattle.gd_base.specs.Setups.Tables.{numbers}
+use Rattle.gd_base.proofs.OutsideLemmas.KeyStream.{placed}
 use Rattle.gd_base.proofs.seeded.block_at.Given as goal
 
 -- the generator stands before word i, and the words so far are written

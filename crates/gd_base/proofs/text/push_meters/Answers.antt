@@ -1,6 +1,6 @@
 use Rattle.std.proofs.Common.{arith, ◌∙◌}
-use Rattle.gd_base.specs.Meters.{meters}
-use Rattle.gd_base.proofs.Lines.{next_line, grown}
+use Rattle.gd_base.specs.Histories.Meters.{meters}
+use Rattle.gd_base.proofs.TextLemmas.Lines.{next_line, grown}
 use Rattle.gd_base.proofs.text.push_meters.Goals as goal
 
 pub loop-place-preserved : goal.loop-place-preserved

@@ -1,7 +1,7 @@
 use Rattle.std.proofs.Common.{◌≡◌, ◌≤◌, ◌+◌, ◌*◌, ◌++◌, take}
 use Rattle.arrayvec.specs.ArrayString.{array_string_len}
-use Rattle.gd_base.specs.Meters.{meters}
-use Rattle.gd_base.specs.Texts.{meter_lines}
+use Rattle.gd_base.specs.Histories.Meters.{meters}
+use Rattle.gd_base.specs.Texts.OfViews.{meter_lines}
 use Rattle.gd_base.proofs.text.push_meters.Given as goal
 
 -- the lines of the first meters

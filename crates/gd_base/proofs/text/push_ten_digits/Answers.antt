@@ -1,5 +1,5 @@
 use Rattle.std.proofs.Common.{arith}
-use Rattle.gd_base.proofs.Digits.{at_most_ten, none_in_front}
+use Rattle.gd_base.proofs.TextLemmas.Digits.{at_most_ten, none_in_front}
 use Rattle.gd_base.proofs.text.push_ten_digits.Goals as goal
 
 pub loop-init : goal.loop-init

@@ -1,6 +1,6 @@
 use Rattle.std.proofs.Common.{ap, ◌∙◌}
 use Rattle.gd_base.specs.declared.play.Choices.{Choices}
-use Rattle.gd_base.specs.Stage.{are_choices}
+use Rattle.gd_base.specs.Games.Stage.{are_choices}
 use Rattle.gd_play.proofs.Held.{open_choices}
 use Rattle.gd_play.proofs.play_machine.open_phase.Goals as goal
 

@@ -1,6 +1,6 @@
 use Rattle.std.proofs.Common.{◌≡◌, ◌<◌, [], length, get_or, take, max, arith, ◌∙◌, ap, sym}
 use Rattle.std.proofs.Math.Seq.{take-length}
-use Rattle.gd_base.specs.Chance.{greatest, pays_on, pay_of_run}
+use Rattle.gd_base.specs.Games.Chance.{greatest, pays_on, pay_of_run}
 use Rattle.gd_base.specs.declared.tables.TheConstants.{SYMBOLS}
 use Rattle.gd_reels.proofs.Greatest.{length-pays_on, pays_on-at, greatest-more, small_at}
 use Rattle.gd_reels.proofs.line.line_pay.Goals as goal

@@ -1,5 +1,5 @@
 use Rattle.std.proofs.Common.{◌≡◌, ◌≤◌, take}
-use Rattle.gd_base.specs.Chance.{greatest, pays_on}
+use Rattle.gd_base.specs.Games.Chance.{greatest, pays_on}
 use Rattle.gd_base.specs.declared.tables.TheConstants.{SYMBOLS}
 use Rattle.gd_reels.proofs.line.line_pay.Given as goal
 

@@ -1,6 +1,6 @@
 use Rattle.std.proofs.Common.{◌≡◌, ◌+◌, ◌++◌, take}
 use Rattle.arrayvec.specs.ArrayString.{array_string_len}
-use Rattle.gd_base.specs.Texts.{bits}
+use Rattle.gd_base.specs.Texts.OfViews.{bits}
 use Rattle.gd_script.proofs.printing.push_bits.Given as goal
 
 -- the digits of the first cards

@@ -1,6 +1,6 @@
 use Rattle.std.proofs.Common.{◌≡◌, ◌∙◌, ◌+◌, ap, sym, subst, refl, ℕ, [], arith, Option, Some}
 use Rattle.std.proofs.KnownBytes.{Appends-nil}
-use Rattle.gd_base.specs.Answer.{answer}
+use Rattle.gd_base.specs.Judging.Answer.{answer}
 use Rattle.gd_cabinet.specs.Answered.{offered}
 use Rattle.gd_cabinet.specs.Shown.{ShowsEither}
 use Rattle.gd_cabinet.specs.Words.{cabinet_core, cabinet_disk, cabinet_draws, cabinet_lap}

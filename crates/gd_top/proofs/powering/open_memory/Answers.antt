@@ -1,6 +1,6 @@
 use Rattle.std.proofs.Common.{◌≡◌, ◌∙◌, ◌++◌, ap, sym, subst, ℕ, Bool, append-nil, [], ◌+◌}
 use Rattle.std.proofs.KnownBytes.{Appends-nil}
-use Rattle.gd_base.specs.Answer.{is_full}
+use Rattle.gd_base.specs.Judging.Answer.{is_full}
 use Rattle.gd_cabinet.specs.Words.{cabinet_core, cabinet_disk}
 use Rattle.gd_cabinet.specs.Opening.{started}
 use Rattle.gd_store.specs.Repair.{repaired}

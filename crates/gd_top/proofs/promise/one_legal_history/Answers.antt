@@ -1,4 +1,4 @@
-use Rattle.gd_base.specs.SoFar.{machine_so_far}
+use Rattle.gd_base.specs.Judging.SoFar.{machine_so_far}
 use Rattle.gd_top.proofs.Legal as law
 use Rattle.gd_top.proofs.promise.one_legal_history.Goals as goal
 

@@ -1,6 +1,6 @@
 use Rattle.std.proofs.Common.{◌≡◌, ◌∙◌, sym, subst, arith, Bool, true, All}
-use Rattle.gd_base.specs.BuiltIn.{built_in_setup}
-use Rattle.gd_base.specs.SoFar.{machine_so_far}
+use Rattle.gd_base.specs.Setups.BuiltIn.{built_in_setup}
+use Rattle.gd_base.specs.Judging.SoFar.{machine_so_far}
 use Rattle.gd_base.specs.declared.setup.Setup.{Setup}
 use Rattle.gd_top.specs.Trial.{is_trial, CabinetDone}
 use Rattle.gd_top.specs.Starts.{IsShown}

@@ -1,6 +1,6 @@
 use Rattle.std.proofs.Common.{◌≡◌, ◌∙◌, ap, sym, subst, List, ℕ, [], All}
-use Rattle.gd_base.specs.Causes.{Rose}
-use Rattle.gd_base.specs.SoFar.{machine_so_far}
+use Rattle.gd_base.specs.Outside.Causes.{Rose}
+use Rattle.gd_base.specs.Judging.SoFar.{machine_so_far}
 use Rattle.gd_top.specs.Core.{core_view}
 use Rattle.gd_top.specs.Carrying.{outside, standing}
 use Rattle.gd_top.specs.LinesDone.{RunEnded, step_of}

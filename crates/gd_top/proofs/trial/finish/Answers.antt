@@ -1,5 +1,5 @@
 use Rattle.std.proofs.Common.{subst, List, ℕ}
-use Rattle.gd_base.specs.SoFar.{machine_so_far}
+use Rattle.gd_base.specs.Judging.SoFar.{machine_so_far}
 use Rattle.gd_top.specs.Core.{core_view}
 use Rattle.gd_top.specs.Carrying.{standing}
 use Rattle.gd_top.specs.Trial.{GivesLast, last_text}

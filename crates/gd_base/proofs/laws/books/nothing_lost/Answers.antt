@@ -1,4 +1,4 @@
-use Rattle.gd_base.proofs.KeptBooks.{keeps_books, keeps_books_over}
+use Rattle.gd_base.proofs.PreservedLemmas.Sums.{keeps_books, keeps_books_over}
 use Rattle.gd_base.proofs.laws.books.nothing_lost.Goals as goal
 
 pub returns-clause-history : goal.returns-clause-history

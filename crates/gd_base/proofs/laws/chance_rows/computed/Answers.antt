@@ -1,4 +1,4 @@
-use Rattle.gd_base.proofs.ChanceRows.{least_words, windows, hands}
+use Rattle.gd_base.proofs.ExampleLemmas.Chance.{least_words, windows, hands}
 use Rattle.gd_base.proofs.laws.chance_rows.computed.Goals as goal
 
 pub returns-clause-words : goal.returns-clause-words

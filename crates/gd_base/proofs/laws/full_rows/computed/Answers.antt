@@ -1,4 +1,4 @@
-use Rattle.gd_base.proofs.FullRows.{full_history}
+use Rattle.gd_base.proofs.ExampleLemmas.FullHistory.{full_history}
 use Rattle.gd_base.proofs.laws.full_rows.computed.Goals as goal
 
 pub returns : goal.returns

@@ -1,4 +1,4 @@
-use Rattle.gd_base.proofs.HistoryRows.{one_bill, rolls_over, pick, vouchers, royal_flush, hopper, ace_low, gambles, evening, cancelled}
+use Rattle.gd_base.proofs.ExampleLemmas.Histories.{one_bill, rolls_over, pick, vouchers, royal_flush, hopper, ace_low, gambles, evening, cancelled}
 use Rattle.gd_base.proofs.laws.history_rows.computed.Goals as goal
 
 pub returns-clause-one_bill : goal.returns-clause-one_bill

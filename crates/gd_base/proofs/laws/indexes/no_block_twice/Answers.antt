@@ -1,4 +1,4 @@
-use Rattle.gd_base.proofs.Indexes.{moves, rise_strictly, none_is_zero}
+use Rattle.gd_base.proofs.BooksLemmas.Indexes.{moves, rise_strictly, none_is_zero}
 use Rattle.gd_base.proofs.laws.indexes.no_block_twice.Goals as goal
 
 pub returns-clause-step : goal.returns-clause-step

@@ -1,4 +1,4 @@
-use Rattle.gd_base.proofs.PayloadRows.{lengths, possible}
+use Rattle.gd_base.proofs.ExampleLemmas.Payloads.{lengths, possible}
 use Rattle.gd_base.proofs.laws.payload_rows.computed.Goals as goal
 
 pub returns-clause-lengths : goal.returns-clause-lengths

@@ -1,4 +1,4 @@
-use Rattle.gd_base.proofs.OneSpelled.{has_one_view, spells_one_thing}
+use Rattle.gd_base.proofs.PayloadLemmas.OneSpelled.{has_one_view, spells_one_thing}
 use Rattle.gd_base.proofs.laws.payloads.one_view.Goals as goal
 
 pub returns-clause-view : goal.returns-clause-view

@@ -1,4 +1,4 @@
-use Rattle.gd_base.proofs.Kept.{keeps_rules}
+use Rattle.gd_base.proofs.PreservedLemmas.Preserved.{keeps_rules}
 use Rattle.gd_base.proofs.laws.rules.kept.Goals as goal
 
 pub returns : goal.returns

@@ -1,4 +1,4 @@
-use Rattle.gd_base.proofs.Indexes.{rise_so_far}
+use Rattle.gd_base.proofs.BooksLemmas.Indexes.{rise_so_far}
 use Rattle.gd_base.proofs.laws.so_far.no_block_twice.Goals as goal
 
 pub returns : goal.returns

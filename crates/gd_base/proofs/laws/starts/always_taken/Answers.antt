@@ -1,4 +1,4 @@
-use Rattle.gd_base.proofs.Answer.{start_taken, start_undrawn}
+use Rattle.gd_base.proofs.AnswerLemmas.Answer.{start_taken, start_undrawn}
 use Rattle.gd_base.proofs.laws.starts.always_taken.Goals as goal
 
 pub returns-clause-taken : goal.returns-clause-taken

@@ -1,4 +1,4 @@
-use Rattle.gd_base.proofs.TextRows.{meters, states, orders, recalls, logs}
+use Rattle.gd_base.proofs.ExampleLemmas.Texts.{meters, states, orders, recalls, logs}
 use Rattle.gd_base.proofs.laws.text_rows.computed.Goals as goal
 
 pub returns-clause-states : goal.returns-clause-states

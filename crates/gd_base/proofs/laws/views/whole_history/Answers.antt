@@ -1,4 +1,4 @@
-use Rattle.gd_base.proofs.Whole.{is_view_enough, is_whole_history, are_themselves}
+use Rattle.gd_base.proofs.HistoryLemmas.WholeHistory.{is_view_enough, is_whole_history, are_themselves}
 use Rattle.gd_base.proofs.laws.views.whole_history.Goals as goal
 
 pub returns-clause-enough : goal.returns-clause-enough

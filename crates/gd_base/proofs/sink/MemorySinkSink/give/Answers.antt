@@ -1,7 +1,7 @@
 use Rattle.std.proofs.Common.{Some, is_ok, subst}
-use Rattle.gd_base.specs.Causes.{AppendsFront}
-use Rattle.gd_base.specs.Outside.{SinkState}
-use Rattle.gd_base.proofs.Fronts.{front_of_grown}
+use Rattle.gd_base.specs.Outside.Causes.{AppendsFront}
+use Rattle.gd_base.specs.Outside.InMemory.{SinkState}
+use Rattle.gd_base.proofs.OutsideLemmas.Fronts.{front_of_grown}
 use Rattle.gd_base.proofs.sink.MemorySinkSink.give.Goals as goal
 
 pub returns-clause-bytes : goal.returns-clause-bytes

@@ -1,5 +1,5 @@
 use Rattle.std.proofs.Common.{arith}
-use Rattle.gd_base.proofs.Fronts.{front_of_take, given_more, given_none}
+use Rattle.gd_base.proofs.OutsideLemmas.Fronts.{front_of_take, given_more, given_none}
 use Rattle.gd_base.proofs.sink.WritingSink.give.Goals as goal
 
 pub returns-then-count-eq0-clause-bytes : goal.returns-then-count-eq0-clause-bytes

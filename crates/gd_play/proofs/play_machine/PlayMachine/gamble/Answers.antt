@@ -1,6 +1,6 @@
 use Rattle.std.proofs.Common.{◌+◌, ◌<◌, ap, ◌∙◌, rules, ℕ}
-use Rattle.gd_base.specs.Rounds.{choices_of}
-use Rattle.gd_base.specs.Stage.{are_choices}
+use Rattle.gd_base.specs.Histories.Rounds.{choices_of}
+use Rattle.gd_base.specs.Games.Stage.{are_choices}
 use Rattle.gd_play.proofs.Held.{gamble_held}
 use Rattle.gd_play.proofs.Turns.{one_turn_more}
 use Rattle.gd_play.proofs.play_machine.PlayMachine.gamble.Goals as goal

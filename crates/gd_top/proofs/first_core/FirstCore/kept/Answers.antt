@@ -1,6 +1,6 @@
 use Rattle.std.proofs.Common.{◌≡◌, ap, arith}
-use Rattle.gd_base.specs.Devices.{kept_at}
-use Rattle.gd_base.specs.Numbers.{device_place}
+use Rattle.gd_base.specs.Histories.Devices.{kept_at}
+use Rattle.gd_base.specs.Histories.Numbers.{device_place}
 use Rattle.gd_play.specs.Words.{machine_phase, machine_play, machine_table}
 use Rattle.gd_top.proofs.Kept.{Kept, kept_small}
 use Rattle.gd_top.proofs.Plays.{kept_by_fit}

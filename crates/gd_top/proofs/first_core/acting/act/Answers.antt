@@ -2,8 +2,8 @@ use Rattle.std.proofs.Common.{◌∙◌, ap, sym, arith}
 use Rattle.gd_base.specs.declared.event.Event.{Event}
 use Rattle.gd_base.specs.declared.refusal.Refusal.{Refusal}
 use Rattle.gd_base.specs.declared.refusal.Reply.{Reply}
-use Rattle.gd_base.specs.SoFar.{rule_so_far}
-use Rattle.gd_base.proofs.SoFarRules.{counts_at}
+use Rattle.gd_base.specs.Judging.SoFar.{rule_so_far}
+use Rattle.gd_base.proofs.SoFarLemmas.Rules.{counts_at}
 use Rattle.gd_play.specs.Words.{machine_phase, machine_play, machine_table}
 use Rattle.gd_top.specs.Books.{acted, view_of}
 use Rattle.gd_top.proofs.Plays.{kept_by_fit, bill_view, start_view, stands}

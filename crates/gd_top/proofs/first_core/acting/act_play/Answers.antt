@@ -3,11 +3,11 @@ use Rattle.gd_base.specs.declared.event.Event.{Event}
 use Rattle.gd_base.specs.declared.game.Game.{Game}
 use Rattle.gd_base.specs.declared.refusal.Reply.{Reply}
 use Rattle.gd_base.specs.declared.play.PlayRecord.{PlayRecord}
-use Rattle.gd_base.specs.Draws.{next_index}
-use Rattle.gd_base.specs.Entry.{is_taken}
-use Rattle.gd_base.specs.Rule.{rule}
-use Rattle.gd_base.specs.SoFar.{is_drawn_so_far}
-use Rattle.gd_base.proofs.SoFarRules.{counts_at}
+use Rattle.gd_base.specs.Judging.Draws.{next_index}
+use Rattle.gd_base.specs.Histories.Entry.{is_taken}
+use Rattle.gd_base.specs.Judging.Rule.{rule}
+use Rattle.gd_base.specs.Judging.SoFar.{is_drawn_so_far}
+use Rattle.gd_base.proofs.SoFarLemmas.Rules.{counts_at}
 use Rattle.gd_play.specs.Words.{machine_phase, machine_play, machine_table}
 use Rattle.gd_top.specs.Books.{view_of}
 use Rattle.gd_top.proofs.Plays.{kept_by_fit, room_by, stands_by, drawn, copied_some, begun_views}

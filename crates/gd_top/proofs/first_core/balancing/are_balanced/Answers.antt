@@ -1,5 +1,5 @@
 use Rattle.std.proofs.Common.{◌∙◌, ap, refl, ℕ, ◌*◌, nat_le}
-use Rattle.gd_base.specs.Spelling.{income, outgo}
+use Rattle.gd_base.specs.Payloads.ViewRules.{income, outgo}
 use Rattle.gd_top.specs.Books.{view_of}
 use Rattle.gd_top.proofs.Checked.{both_tests, first_holds, first_fails}
 use Rattle.gd_top.proofs.first_core.balancing.are_balanced.Goals as goal

@@ -1,5 +1,5 @@
 use Rattle.std.proofs.Common.{◌∙◌, sym}
-use Rattle.gd_base.specs.Spelling.{is_balanced}
+use Rattle.gd_base.specs.Payloads.ViewRules.{is_balanced}
 use Rattle.gd_top.specs.Books.{view_of}
 use Rattle.gd_top.specs.Checks.{are_counts}
 use Rattle.gd_top.proofs.Checked.{second_of}

@@ -1,6 +1,6 @@
 use Rattle.std.proofs.Common.{◌∙◌, sym, ◌&&◌, IfSome, IsTrue}
 use Rattle.std.proofs.lemmas.Bool.{OnTrue_from}
-use Rattle.gd_base.specs.Spelling.{is_balanced, is_choice_value, open_is}
+use Rattle.gd_base.specs.Payloads.ViewRules.{is_balanced, is_choice_value, open_is}
 use Rattle.gd_top.specs.Books.{view_of}
 use Rattle.gd_top.specs.Checks.{are_counts, is_one_of, is_open_at}
 use Rattle.gd_top.proofs.Checked.{second_of, not_first, whole_is, choice_told}

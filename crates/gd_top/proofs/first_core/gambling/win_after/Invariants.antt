@@ -1,5 +1,5 @@
 use Rattle.std.proofs.Common.{◌≡◌, ◌≤◌, ◌*◌, ◌^◌}
-use Rattle.gd_base.specs.Stage.{win_after}
+use Rattle.gd_base.specs.Games.Stage.{win_after}
 use Rattle.gd_top.proofs.first_core.gambling.win_after.Given as goal
 
 abbrev pub invariant-loop-turn : goal.invariant-loop-turn

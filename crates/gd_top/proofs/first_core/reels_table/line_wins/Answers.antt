@@ -1,5 +1,5 @@
 use Rattle.std.proofs.Common.{◌+◌, ℕ, ap, ◌∙◌, sym, arith, add-one}
-use Rattle.gd_base.specs.Chance.{line_wins, line_pay}
+use Rattle.gd_base.specs.Games.Chance.{line_wins, line_pay}
 use Rattle.gd_top.proofs.first_core.reels_table.line_wins.Goals as goal
 
 pub loop-line-preserved : goal.loop-line-preserved

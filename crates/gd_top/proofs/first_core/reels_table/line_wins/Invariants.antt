@@ -1,5 +1,5 @@
 use Rattle.std.proofs.Common.{◌≡◌, ◌≤◌, ◌*◌}
-use Rattle.gd_base.specs.Chance.{line_wins}
+use Rattle.gd_base.specs.Games.Chance.{line_wins}
 use Rattle.gd_top.proofs.first_core.reels_table.line_wins.Given as goal
 
 abbrev pub invariant-loop-line : goal.invariant-loop-line

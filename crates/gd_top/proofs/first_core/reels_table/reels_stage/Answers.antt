@@ -1,7 +1,7 @@
 use Rattle.std.proofs.Common.{◌&&◌, ◌^◌, nat_lt}
 use Rattle.gd_base.specs.declared.game.Game.{Game}
-use Rattle.gd_base.proofs.Rules.{both}
-use Rattle.gd_base.specs.Stage.{is_choice, could_turn}
+use Rattle.gd_base.proofs.BoolTests.{both}
+use Rattle.gd_base.specs.Games.Stage.{is_choice, could_turn}
 use Rattle.gd_play.proofs.Turns.{at_most_five}
 use Rattle.gd_top.proofs.first_core.reels_table.reels_stage.Goals as goal
 

@@ -1,7 +1,7 @@
 use Rattle.std.proofs.Common.{◌∙◌, ap, sym, refl, List, ℕ, ◌++◌, codes}
 use Rattle.std.specs.Option.{option_copied}
 use Rattle.gd_base.specs.declared.step.What.{What}
-use Rattle.gd_base.specs.TheMachine.{text}
+use Rattle.gd_base.specs.Judging.Product.{text}
 use Rattle.gd_top.specs.Books.{view_of}
 use Rattle.gd_top.proofs.Checked.{order_told}
 use Rattle.gd_top.proofs.PlayLines.{none_recalled}

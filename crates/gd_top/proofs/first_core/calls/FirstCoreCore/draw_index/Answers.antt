@@ -1,5 +1,5 @@
 use Rattle.std.proofs.Common.{arith}
-use Rattle.gd_base.proofs.SoFarRules.{counts_at}
+use Rattle.gd_base.proofs.SoFarLemmas.Rules.{counts_at}
 use Rattle.gd_play.specs.Words.{machine_phase, machine_play, machine_table}
 use Rattle.gd_top.proofs.Plays.{kept_by_fit}
 use Rattle.gd_top.proofs.first_core.calls.FirstCoreCore.draw_index.Goals as goal

@@ -2,14 +2,14 @@ use Rattle.std.proofs.Common.{◌≡◌, ◌∙◌, ap, sym, subst, ℕ, ◌+◌
 use Rattle.gd_base.specs.declared.device.Device.{Device}
 use Rattle.gd_base.specs.declared.refusal.Reply.{Reply}
 use Rattle.gd_base.specs.declared.step.Stepped.{Stepped}
-use Rattle.gd_base.specs.Answer.{IsDraw, is_new}
-use Rattle.gd_base.specs.Devices.{kept_at}
-use Rattle.gd_base.specs.Draws.{next_index}
-use Rattle.gd_base.specs.Entry.{Entry, device_of}
-use Rattle.gd_base.specs.Numbers.{device_place}
-use Rattle.gd_base.specs.SoFar.{machine_so_far, is_drawn_so_far, is_whole_so_far}
-use Rattle.gd_base.specs.Devices.{with_reply}
-use Rattle.gd_base.proofs.Answer.{answer_new}
+use Rattle.gd_base.specs.Judging.Answer.{IsDraw, is_new}
+use Rattle.gd_base.specs.Histories.Devices.{kept_at}
+use Rattle.gd_base.specs.Judging.Draws.{next_index}
+use Rattle.gd_base.specs.Histories.Entry.{Entry, device_of}
+use Rattle.gd_base.specs.Histories.Numbers.{device_place}
+use Rattle.gd_base.specs.Judging.SoFar.{machine_so_far, is_drawn_so_far, is_whole_so_far}
+use Rattle.gd_base.specs.Histories.Devices.{with_reply}
+use Rattle.gd_base.proofs.AnswerLemmas.Answer.{answer_new}
 use Rattle.gd_play.specs.Words.{machine_phase, machine_play, machine_table}
 use Rattle.gd_top.specs.Books.{view_of}
 use Rattle.gd_top.specs.declared.first_core.reels_table.ReelsTable.{ReelsTable}

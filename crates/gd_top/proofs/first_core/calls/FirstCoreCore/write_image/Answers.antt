@@ -1,8 +1,8 @@
 use Rattle.std.proofs.Common.{◌∙◌, ap, Option}
 use Rattle.gd_base.specs.declared.play.PlayRecord.{PlayRecord}
-use Rattle.gd_base.specs.Payload.{payload_of}
-use Rattle.gd_base.specs.SoFar.{spelled_so_far}
-use Rattle.gd_base.proofs.SoFar.{spelled_back}
+use Rattle.gd_base.specs.Payloads.Bytes.{payload_of}
+use Rattle.gd_base.specs.Judging.SoFar.{spelled_so_far}
+use Rattle.gd_base.proofs.SoFarLemmas.Bytes.{spelled_back}
 use Rattle.gd_play.specs.Words.{machine_play}
 use Rattle.gd_top.specs.Books.{view_of}
 use Rattle.gd_top.proofs.first_core.calls.FirstCoreCore.write_image.Goals as goal

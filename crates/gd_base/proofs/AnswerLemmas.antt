@@ -1,0 +1,3 @@
+-- What an answer tells of an event, and when each comes.
+pub mod Answer
+pub mod Exact

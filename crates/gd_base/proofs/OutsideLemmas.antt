@@ -1,0 +1,3 @@
+-- What is given in part, and the words of a key stream.
+pub mod Fronts
+pub mod KeyStream

@@ -1,0 +1,3 @@
+-- Digits and lines.
+pub mod Digits
+pub mod Lines

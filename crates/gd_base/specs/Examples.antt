@@ -1,0 +1,6 @@
+-- Worked examples, to be computed.
+pub mod Chance
+pub mod Histories
+pub mod Texts
+pub mod Payloads
+pub mod FullHistory

@@ -1,0 +1,3 @@
+-- What the recorded words of a play decide, and in which stage a play stands.
+pub mod Chance
+pub mod Stage
