@@ -9,11 +9,11 @@ use crate::list_draws::ListDraws;
 use crate::play::Block;
 
 impl ListDraws {
-    ghost use Rattle.gd_base.specs.Outside.InMemory.{listed};
+    ghost use Rattle.gd_base.specs.Outside.InMemory.{listed_block};
 
     /// These blocks, of which the first has index 0.
     pub fn of(blocks: Vec<Block>) -> Self
-        ensures block_of { (lap index : ℕ) → ⟦<ListDraws as Draws>⟧.block_of result lap index ≡ listed blocks.items lap index }
+        ensures block_of { (lap index : ℕ) → ⟦<ListDraws as Draws>⟧.block_of result lap index ≡ listed_block blocks.items lap index }
     {
         all_fit(&blocks);
         ListDraws { blocks }
@@ -21,10 +21,10 @@ impl ListDraws {
 }
 
 impl Draws for ListDraws {
-    ghost use Rattle.gd_base.specs.Outside.InMemory.{listed};
+    ghost use Rattle.gd_base.specs.Outside.InMemory.{listed_block};
     ghost use Rattle.gd_base.specs.Outside.Blocks.{listed_are};
 
-    ghost block_of = { λ d. listed d.blocks.items };
+    ghost block_of = { λ d. listed_block d.blocks.items };
 
     ghost are_blocks = { λ d. listed_are d.blocks.items d.are_listed };
 
@@ -37,7 +37,7 @@ impl Draws for ListDraws {
     }
 }
 
-/// What the types of listed blocks make true of them.
+/// What the types of listed_block blocks make true of them.
 fn all_fit(blocks: &[Block])
     ensures { AreListed blocks.now }
 {

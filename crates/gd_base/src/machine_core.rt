@@ -5,7 +5,7 @@ ghost use Rattle.std.specs.Coded.{Coded};
 ghost use Rattle.gd_base.specs.Judging.Answer.{answer, after_answer, is_draw_needed, IsDrawFor};
 ghost use Rattle.gd_base.specs.Judging.Machine.{Machine};
 ghost use Rattle.gd_base.specs.Payloads.LoadedView.{view_loaded};
-ghost use Rattle.gd_base.specs.Payloads.Spelled.{Spelled, Shows, loaded};
+ghost use Rattle.gd_base.specs.Payloads.Spelled.{Spelled, Shows, load_answer};
 
 use crate::device::Device;
 use crate::layout::PAYLOAD_LEN;
@@ -50,7 +50,7 @@ pub trait Core {
     /// Takes the view that a payload spells. After any other answer than Read the core is as after `clear`.
     fn load(&mut self, image: &[u8]) -> Loaded
         requires { length image.now ≡ PAYLOAD_LEN }
-        ensures answer { result ≡ loaded ((meaning self.old).spelled image.now) }
+        ensures answer { result ≡ load_answer ((meaning self.old).spelled image.now) }
         ensures view { view self.new ≡ view_loaded (meaning self.old) ((meaning self.old).spelled image.now) }
         ensures same { meaning self.new ≡ meaning self.old };
 

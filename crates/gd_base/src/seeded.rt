@@ -1,7 +1,7 @@
 //! Random words from a seed.
 
 ghost use Rattle.std.specs.Prelude.{◌≡◌};
-ghost use Rattle.gd_base.specs.Outside.KeyStream.{key_bytes, seeded};
+ghost use Rattle.gd_base.specs.Outside.KeyStream.{key_bytes, seeded_block};
 
 use crate::draws::Draws;
 use crate::play::Block;
@@ -31,7 +31,7 @@ impl ChaChaDraws {
     /// The blocks of this seed.
     pub fn new(seed: u64) -> Self
         ensures seed { result ≡ seed }
-        ensures block_of { (lap index : ℕ) → ⟦<ChaChaDraws as Draws>⟧.block_of result lap index ≡ seeded seed lap index }
+        ensures block_of { (lap index : ℕ) → ⟦<ChaChaDraws as Draws>⟧.block_of result lap index ≡ seeded_block seed lap index }
     {
         ChaChaDraws { seed }
     }
@@ -40,7 +40,7 @@ impl ChaChaDraws {
 impl Draws for ChaChaDraws {
     ghost use Rattle.gd_base.specs.Outside.Blocks.{seeded_are};
 
-    ghost block_of = { seeded };
+    ghost block_of = { seeded_block };
 
     ghost are_blocks = { seeded_are };
 
@@ -51,7 +51,7 @@ impl Draws for ChaChaDraws {
 
 // The block of a lap and an index.
 fn block_at(seed: u64, lap: u64, index: u64) -> Block
-    ensures { result ≡ seeded seed lap index }
+    ensures { result ≡ seeded_block seed lap index }
 {
     let mut rng = ChaCha20Rng::from_seed(key_of(seed));
     rng.set_stream(lap);

@@ -5,7 +5,7 @@ ghost use Rattle.arrayvec.specs.ArrayString.{array_string_len};
 ghost use Rattle.gd_base.specs.Histories.Meters.{meters};
 ghost use Rattle.gd_base.specs.Texts.Names.{refusal_text, reply_text};
 ghost use Rattle.gd_base.specs.Histories.Numbers.{refusal_number};
-ghost use Rattle.gd_base.specs.Texts.OfViews.{padded, meter_line, meter_lines};
+ghost use Rattle.gd_base.specs.Texts.OfViews.{padded_digits, meter_line, meter_lines};
 
 use crate::meter::{METERS, Meter};
 use crate::refusal::{Refusal, Reply};
@@ -107,7 +107,7 @@ fn push_refusal_number(text: &mut Text, why: Refusal)
 fn push_ten_digits(text: &mut Text, n: u64)
     requires small { n < 10 ^ 10 }
     requires room { array_string_len text.old + 10 ≤ TEXT_LEN }
-    ensures bytes { text.new.bytes ≡ text.old.bytes ++ padded 10 (decimal n) }
+    ensures bytes { text.new.bytes ≡ text.old.bytes ++ padded_digits 10 (decimal n) }
     ensures room { array_string_len text.new ≡ array_string_len text.old + 10 }
 {
     let mut buffer = Buffer::new();

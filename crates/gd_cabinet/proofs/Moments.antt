@@ -1,6 +1,6 @@
 -- What each moment of an opening leaves.
 use Rattle.std.proofs.Common.{◌≡◌, ◌∙◌, ap, subst, inl, inr, ⊎_elim, ℕ, List, Option}
-use Rattle.gd_disk.specs.Disk.{DiskState, IfTold, Stands}
+use Rattle.gd_disk.specs.Disk.{DiskState, IfTold, Unchanged}
 use Rattle.gd_disk.specs.Runs.{LeavesOnly}
 use Rattle.gd_disk.proofs.Runs.{and_then, at_end, weaker}
 use Rattle.gd_base.specs.Judging.Machine.{Machine, Blocks}
@@ -25,11 +25,11 @@ opening_moments M N blocks lap v s0 s1 s2 same first second told =
     and_then s0 s1 s2 _ _ _ first (subst (λ K. LeavesOnly s1 s2 (ShowsEither K v (started K blocks lap v))) same second) (λ c keeps. inl (keeps_view M s0 c keeps)) (λ c either. inr (v, told, either))
 
 -- reads alone
-pub reads_alone : {V : Type 0} (M : Machine V) (blocks : Blocks) (lap : ℕ) (s0 s1 : DiskState) → LeavesOnly s0 s1 (From s0 Stands) → LeavesOnly s0 s1 (IsOpening M blocks lap s0)
+pub reads_alone : {V : Type 0} (M : Machine V) (blocks : Blocks) (lap : ℕ) (s0 s1 : DiskState) → LeavesOnly s0 s1 (From s0 Unchanged) → LeavesOnly s0 s1 (IsOpening M blocks lap s0)
 reads_alone M blocks lap s0 s1 run = weaker s0 s1 _ _ run (λ c from. inl (from.0, from.1, ap (shows M) from.2))
 
 -- reads, and then an opening
-pub reads_then : {V : Type 0} (M N : Machine V) (blocks : Blocks) (lap : ℕ) (s0 s1 s2 : DiskState) → N ≡ M → s1.seen ≡ s0.seen → LeavesOnly s0 s1 (From s0 Stands) → LeavesOnly s1 s2 (IsOpening N blocks lap s1) → LeavesOnly s0 s2 (IsOpening M blocks lap s0)
+pub reads_then : {V : Type 0} (M N : Machine V) (blocks : Blocks) (lap : ℕ) (s0 s1 s2 : DiskState) → N ≡ M → s1.seen ≡ s0.seen → LeavesOnly s0 s1 (From s0 Unchanged) → LeavesOnly s1 s2 (IsOpening N blocks lap s1) → LeavesOnly s0 s2 (IsOpening M blocks lap s0)
 reads_then {V} M N blocks lap s0 s1 s2 same seen first second =
     and_then s0 s1 s2 _ _ _ first (subst (λ K. LeavesOnly s1 s2 (IsOpening K blocks lap s1)) same second) (λ c from. inl (from.0, from.1, ap (shows M) from.2)) (λ c opening. ⊎_elim
     (λ keeps. let back = at_end s0 s1 _ first keeps.0 keeps.1 in inl (back.0, back.1, keeps.2 ∙ ap (shows M) back.2))

@@ -5,7 +5,7 @@ use Rattle.gd_base.specs.Judging.Answer.{answer, after_answer, is_full, is_new}
 use Rattle.gd_base.specs.Judging.Legal.{draw_of}
 use Rattle.gd_base.specs.Judging.Machine.{Machine, Blocks}
 use Rattle.gd_base.specs.Payloads.Spelled.{Shows}
-use Rattle.gd_disk.specs.CutRuns.{IsWhole, RunOf}
+use Rattle.gd_disk.specs.CutRuns.{IsCompleteRun, RunOf}
 use Rattle.gd_disk.specs.Disk.{DiskState, IfTold}
 use Rattle.gd_disk.proofs.WholeRuns.{run_on, run_fails, after_none, whole_then}
 use Rattle.gd_store.specs.Booting.{IsFound}
@@ -28,13 +28,13 @@ use Rattle.gd_cabinet.proofs.Showing.{told_maps, as_found}
 -- ---- the runs
 
 -- reads, and then the rest of an opening
-reads_then : {C D W : Type 0} {g h i : _} (r : CabinetOpened C D W g h i) (n : ℕ) (old mid new : DiskState) → old.is_on ≡ true → mid.is_on ≡ true → IsWhole 0 old mid → RunsBy r n mid new → RunsBy r n old new
+reads_then : {C D W : Type 0} {g h i : _} (r : CabinetOpened C D W g h i) (n : ℕ) (old mid new : DiskState) → old.is_on ≡ true → mid.is_on ≡ true → IsCompleteRun 0 old mid → RunsBy r n mid new → RunsBy r n old new
 reads_then (CabinetOpened.Ready cabinet found) n old mid new was on first rest = after_none n old mid new first rest
 reads_then (CabinetOpened.Locked why found parts) n old mid new was on first rest = after_none 0 old mid new first rest
 reads_then (CabinetOpened.Differs kept found parts) n old mid new was on first rest = after_none 0 old mid new first rest
 reads_then (CabinetOpened.Off found parts) n old mid new was on first rest = run_fails (0 + n) n tt (Err tt) old new refl (omega arith) (run_on 0 n (Err tt) old mid new was on first rest)
 
-pub reads_before_told : {V C D W : Type 0} {g h i : _} (r : CabinetOpened C D W g h i) (M N : Machine V) (old mid new : DiskState) → N ≡ M → mid.seen ≡ old.seen → old.is_on ≡ true → mid.is_on ≡ true → IsWhole 0 old mid
+pub reads_before_told : {V C D W : Type 0} {g h i : _} (r : CabinetOpened C D W g h i) (M N : Machine V) (old mid new : DiskState) → N ≡ M → mid.seen ≡ old.seen → old.is_on ≡ true → mid.is_on ≡ true → IsCompleteRun 0 old mid
     → IfTold mid.seen (λ image. RunsBy r (opening_syncs N image) mid new) → IfTold old.seen (λ image. RunsBy r (opening_syncs M image) old new)
 reads_before_told r M N old mid new same seen was on first told =
     let told_of = subst (λ (s : Option (List ℕ)). IfTold s (λ image. RunsBy r (opening_syncs M image) mid new)) seen (subst (λ K. IfTold mid.seen (λ image. RunsBy r (opening_syncs K image) mid new)) same told) in
@@ -73,10 +73,10 @@ few_starts M v = of_each (is_new (answer M v (start_of M v)))
     of_each false = omega arith
 
 -- the start behind the repair: it was made, or it failed
-pub start_made : {V : Type 0} (M N : Machine V) (j : ℕ) (v : V) (old mid new : DiskState) → N ≡ M → IsWhole j old mid → IsWhole (starting N v) mid new → IsWhole (j + starting M v) old new
-start_made M N j v old mid new same first second = subst (λ K. IsWhole (j + starting K v) old new) same (whole_then j (starting N v) old mid new first second)
+pub start_made : {V : Type 0} (M N : Machine V) (j : ℕ) (v : V) (old mid new : DiskState) → N ≡ M → IsCompleteRun j old mid → IsCompleteRun (starting N v) mid new → IsCompleteRun (j + starting M v) old new
+start_made M N j v old mid new same first second = subst (λ K. IsCompleteRun (j + starting K v) old new) same (whole_then j (starting N v) old mid new first second)
 
-pub start_not_made : {V : Type 0} (M N : Machine V) (j : ℕ) (v : V) (old mid new : DiskState) → N ≡ M → old.is_on ≡ true → mid.is_on ≡ true → IsWhole j old mid → RunOf {T = Unit {0}} {E = Unit {0}} (starting N v) (Err tt) mid new
+pub start_not_made : {V : Type 0} (M N : Machine V) (j : ℕ) (v : V) (old mid new : DiskState) → N ≡ M → old.is_on ≡ true → mid.is_on ≡ true → IsCompleteRun j old mid → RunOf {T = Unit {0}} {E = Unit {0}} (starting N v) (Err tt) mid new
     → RunOf {T = Unit {0}} {E = Unit {0}} (j + starting M v) (Err tt) old new
 start_not_made M N j v old mid new same was on first rest = subst (λ K. RunOf {T = Unit {0}} {E = Unit {0}} (j + starting K v) (Err tt) old new) same (run_on j (starting N v) (Err tt) old mid new was on first rest)
 

@@ -2,7 +2,7 @@
 use Rattle.std.specs.Prelude.{◌≡◌, ◌≤◌, ◌+◌, ℕ, true, Some, None, Ok, Err}
 use Rattle.gd_base.specs.Judging.Machine.{Machine, Blocks}
 use Rattle.gd_base.specs.Payloads.Spelled.{Shows}
-use Rattle.gd_disk.specs.CutRuns.{IsWhole, RunOf}
+use Rattle.gd_disk.specs.CutRuns.{IsCompleteRun, RunOf}
 use Rattle.gd_disk.specs.Disk.{DiskState, Answers}
 use Rattle.gd_store.specs.Repair.{repaired, syncs_of_repair}
 use Rattle.gd_cabinet.specs.Opening.{started, start_syncs}
@@ -11,25 +11,25 @@ use Rattle.gd_cabinet.specs.declared.opened.CabinetOpened.{CabinetOpened}
 
 -- a run of this many syncs, which is whole at Ready; where the memory is shut, a whole one of none
 abbrev pub RunsBy : {C D W : Type 0} {g h i : _} → CabinetOpened C D W g h i → ℕ → DiskState → DiskState → Type 0
-RunsBy (CabinetOpened.Ready cabinet found) syncs old new = IsWhole syncs old new
-RunsBy (CabinetOpened.Locked why found parts) syncs old new = IsWhole 0 old new
-RunsBy (CabinetOpened.Differs kept found parts) syncs old new = IsWhole 0 old new
+RunsBy (CabinetOpened.Ready cabinet found) syncs old new = IsCompleteRun syncs old new
+RunsBy (CabinetOpened.Locked why found parts) syncs old new = IsCompleteRun 0 old new
+RunsBy (CabinetOpened.Differs kept found parts) syncs old new = IsCompleteRun 0 old new
 RunsBy (CabinetOpened.Off found parts) syncs old new = RunOf {T = Unit {0}} {E = Unit {0}} syncs (Err tt) old new
 
 -- The same for a disk that doesn't tell its content: at Ready the syncs of the repair and those of the start on the view that
 -- was read, else at most those of one repair, or of that and a start.
 abbrev pub OpeningRun : {V C D W : Type 0} {g h i : _} → Machine V → (C → V) → Blocks → ℕ → CabinetOpened C D W g h i → DiskState → DiskState → Type 0
 OpeningRun M view blocks lap (CabinetOpened.Ready cabinet found) old new =
-    (v : _) × (view (cabinet_core cabinet) ≡ started M blocks lap v) × IsWhole (syncs_of_repair (repaired found) + start_syncs M (Shows v)) old new
-OpeningRun M view blocks lap (CabinetOpened.Locked why found parts) old new = (syncs : ℕ) × (syncs ≤ 3) × IsWhole syncs old new
-OpeningRun M view blocks lap (CabinetOpened.Differs kept found parts) old new = (syncs : ℕ) × (syncs ≤ 3) × IsWhole syncs old new
+    (v : _) × (view (cabinet_core cabinet) ≡ started M blocks lap v) × IsCompleteRun (syncs_of_repair (repaired found) + start_syncs M (Shows v)) old new
+OpeningRun M view blocks lap (CabinetOpened.Locked why found parts) old new = (syncs : ℕ) × (syncs ≤ 3) × IsCompleteRun syncs old new
+OpeningRun M view blocks lap (CabinetOpened.Differs kept found parts) old new = (syncs : ℕ) × (syncs ≤ 3) × IsCompleteRun syncs old new
 OpeningRun M view blocks lap (CabinetOpened.Off found parts) old new = RunOf {T = Unit {0}} {E = Unit {0}} 9 (Err tt) old new
 
 -- both copies were read
 pub record HasRead (old new : DiskState) : Type 0 where
   pub answer : Answers {T = Unit {0}} {E = Unit {0}} (Ok tt) old new
   pub seen : new.seen ≡ old.seen
-  pub run : IsWhole 0 old new
+  pub run : IsCompleteRun 0 old new
 
 -- the first reading of the copies failed
 pub record HasNotRead (old new : DiskState) : Type 0 where

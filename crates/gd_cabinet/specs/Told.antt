@@ -2,7 +2,7 @@
 use Rattle.std.specs.Prelude.{◌≡◌, ℕ, List, Option, Some, None}
 use Rattle.gd_base.specs.Judging.Machine.{Machine}
 use Rattle.gd_base.specs.Payloads.LoadedView.{at_sequence}
-use Rattle.gd_base.specs.Payloads.Spelled.{loaded}
+use Rattle.gd_base.specs.Payloads.Spelled.{load_answer}
 use Rattle.gd_base.specs.declared.step.Loaded.{Loaded}
 use Rattle.gd_cabinet.specs.declared.locked.Locked.{Locked}
 use Rattle.gd_cabinet.specs.declared.opened.CabinetOpened.{CabinetOpened}
@@ -10,7 +10,7 @@ use Rattle.gd_cabinet.specs.declared.opened.CabinetOpened.{CabinetOpened}
 -- what loading what is booted answers, its count held against its sequence; nothing where none is booted
 abbrev pub loading : {V : Type 0} → Machine V → Option (ℕ × List ℕ) → Option Loaded
 loading M None = None
-loading M (Some booted) = Some (loaded (at_sequence M booted.0 (M.spelled booted.1)))
+loading M (Some booted) = Some (load_answer (at_sequence M booted.0 (M.spelled booted.1)))
 
 -- Each answer but Off comes exactly where this is so: they exclude one another.
 abbrev pub AnswersTo : {C D W : Type 0} {g h i : _} → CabinetOpened C D W g h i → Option Loaded → Type 0

@@ -1,11 +1,11 @@
 // The start of a core on a store.
 ghost use Rattle.std.specs.Prelude.{◌≡◌, ◌+◌, Err, IfOk, IfErr, List, ℕ, true, false, length};
-ghost use Rattle.gd_disk.specs.CutRuns.{IsWhole, RunOf};
+ghost use Rattle.gd_disk.specs.CutRuns.{IsCompleteRun, RunOf};
 ghost use Rattle.gd_disk.specs.Disk.{Rose};
 ghost use Rattle.gd_disk.specs.Runs.{LeavesOnly, CutOrFaultIn};
 ghost use Rattle.gd_base.specs.Judging.Answer.{answer, is_new};
 ghost use Rattle.gd_base.specs.Payloads.LoadedView.{at_sequence, view_loaded};
-ghost use Rattle.gd_base.specs.Payloads.Spelled.{Shows, loaded};
+ghost use Rattle.gd_base.specs.Payloads.Spelled.{Shows, load_answer};
 ghost use Rattle.gd_store.specs.Words.{store_disk, store_payload, store_sequence, store_stopped};
 ghost use Rattle.gd_cabinet.specs.Answered.{syncs_of, Made};
 ghost use Rattle.gd_cabinet.specs.Opening.{start_of, started};
@@ -22,7 +22,7 @@ use gd_store::Store;
 // Loads a payload, whose view counts only where it has this many entries.
 pub(crate) fn load_at<C: Core>(core: &mut C, payload: &[u8], sequence: u64) -> Loaded
     requires { length payload.now ≡ PAYLOAD_LEN }
-    ensures answer { result ≡ loaded (at_sequence (C.meaning core.old) sequence ((C.meaning core.old).spelled payload.now)) }
+    ensures answer { result ≡ load_answer (at_sequence (C.meaning core.old) sequence ((C.meaning core.old).spelled payload.now)) }
     ensures view { C.view core.new ≡ view_loaded (C.meaning core.old) (at_sequence (C.meaning core.old) sequence ((C.meaning core.old).spelled payload.now)) }
     ensures same { C.meaning core.new ≡ C.meaning core.old }
 {
@@ -79,7 +79,7 @@ pub(crate) fn begin<C: Core, D: Disk, W: Draws>(
         × ((D.state parts.disk).size ≡ (D.state (store_disk store)).size) × ((D.state parts.disk).found ≡ (D.state (store_disk store)).found)
         × ((D.state parts.disk).is_on ≡ false)) }
     ensures cut { IfErr result (λ parts. CutOrFaultIn (syncs_of (is_new (answer (C.meaning core) (C.view core) (start_of (C.meaning core) (C.view core))))) (D.state (store_disk store)) (D.state parts.disk)) }
-    ensures run { IfOk result (λ cabinet. IsWhole (syncs_of (is_new (answer (C.meaning core) (C.view core) (start_of (C.meaning core) (C.view core))))) (D.state (store_disk store)) (D.state (cabinet_disk cabinet))) }
+    ensures run { IfOk result (λ cabinet. IsCompleteRun (syncs_of (is_new (answer (C.meaning core) (C.view core) (start_of (C.meaning core) (C.view core))))) (D.state (store_disk store)) (D.state (cabinet_disk cabinet))) }
     ensures off_run { IfErr result (λ parts. RunOf {T = Unit {0}} {E = Unit {0}} (syncs_of (is_new (answer (C.meaning core) (C.view core) (start_of (C.meaning core) (C.view core))))) (Err tt) (D.state (store_disk store)) (D.state parts.disk)) }
     ensures off { IfErr result (λ parts. C.meaning parts.core ≡ C.meaning core) }
     ensures off_draws { IfErr result (λ parts. (l i : ℕ) → W.block_of parts.draws l i ≡ W.block_of draws l i) }

@@ -1,6 +1,6 @@
 // A cabinet on a disk whose power a test cuts.
 ghost use Rattle.std.specs.Prelude.{◌≡◌, ◌≤◌, ◌<◌, ◌++◌, ◌∷◌, [], length};
-ghost use Rattle.gd_disk.specs.Disk.{Loses, Stands, KeepsCounts};
+ghost use Rattle.gd_disk.specs.Disk.{Loses, Unchanged, KeepsCounts};
 ghost use Rattle.gd_cabinet.specs.Words.{cabinet_core, cabinet_disk, cabinet_draws, cabinet_lap, cabinet_stopped};
 
 use crate::Cabinet;
@@ -17,7 +17,7 @@ impl<C: Core, L: LabDisk, W: Draws> Cabinet<C, L, W> {
         ensures armed { (L.state (cabinet_disk self.new)).armed ≡ (L.state (cabinet_disk self.old)).armed ++ record { unit = unit; count = count; torn = torn } ∷ [] }
         ensures power { (L.state (cabinet_disk self.new)).is_on ≡ (L.state (cabinet_disk self.old)).is_on }
         ensures seen { (L.state (cabinet_disk self.new)).seen ≡ (L.state (cabinet_disk self.old)).seen }
-        ensures loss { Loses Stands (L.state (cabinet_disk self.old)) (L.state (cabinet_disk self.new)) }
+        ensures loss { Loses Unchanged (L.state (cabinet_disk self.old)) (L.state (cabinet_disk self.new)) }
         ensures counts { KeepsCounts (L.state (cabinet_disk self.old)) (L.state (cabinet_disk self.new)) }
         ensures found { (L.state (cabinet_disk self.new)).found ≡ (L.state (cabinet_disk self.old)).found }
         ensures faults { (L.state (cabinet_disk self.new)).faults ≡ (L.state (cabinet_disk self.old)).faults }

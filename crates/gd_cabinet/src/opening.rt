@@ -1,6 +1,6 @@
 // The opening of a memory.
 ghost use Rattle.std.specs.Prelude.{◌≡◌, ◌⊎◌, ◌+◌, Some, List, ℕ, true, false};
-ghost use Rattle.gd_disk.specs.Disk.{IfTold, IsSynced, Rose, Stands};
+ghost use Rattle.gd_disk.specs.Disk.{IfTold, IsSynced, Rose, Unchanged};
 ghost use Rattle.gd_disk.specs.Runs.{LeavesOnly, CutOrFaultIn};
 ghost use Rattle.gd_base.specs.Judging.Answer.{is_full};
 ghost use Rattle.gd_base.specs.Payloads.Spelled.{Shows};
@@ -128,7 +128,7 @@ impl<C: Core, D: Disk, W: Draws> Cabinet<C, D, W> {
         ensures draws { (l i : ℕ) → W.block_of (draws_in result) l i ≡ W.block_of parts.draws l i }
         ensures untouched { OnShut result (IfTold (D.state parts.disk).seen (λ image. ((D.state (disk_in result)).seen ≡ Some image)
             × ((D.state (disk_in result)).syncs ≡ (D.state parts.disk).syncs) × ((D.state (disk_in result)).armed ≡ (D.state parts.disk).armed))) }
-        ensures unwritten { OnShut result (IfTold (D.state parts.disk).seen (λ image. LeavesOnly (D.state parts.disk) (D.state (disk_in result)) (From (D.state parts.disk) Stands))) }
+        ensures unwritten { OnShut result (IfTold (D.state parts.disk).seen (λ image. LeavesOnly (D.state parts.disk) (D.state (disk_in result)) (From (D.state parts.disk) Unchanged))) }
         ensures stays_on { OnShut result (((D.state (disk_in result)).is_on ≡ true) × ((D.state (disk_in result)).stops ≡ (D.state parts.disk).stops)
             × ((D.state (disk_in result)).faults ≡ (D.state parts.disk).faults)) }
         ensures cause { OnOff result (Rose (D.state parts.disk).stops (D.state (disk_in result)).stops) }

@@ -1,9 +1,9 @@
 -- How the record of a run of calls is got, and how one run goes on after another.
 use Rattle.std.proofs.Common.{◌≡◌, ◌⊎◌, inl, inr, ⊎_elim, ℕ, ◌+◌, ◌<◌, ◌≤◌, List, [], ◌∷◌, length, Result, Ok, Err, refl, sym, ◌∙◌, ap, subst, arith, true, false, OnOk, OnErr, is_err}
 use Rattle.std.proofs.lemmas.Bool.{cases_lt}
-use Rattle.gd_disk.specs.Disk.{DiskState, IsCut, CountsCuts, Answers, Rose, used_up}
+use Rattle.gd_disk.specs.Disk.{DiskState, IsCut, CountsCuts, Answers, Rose, later_cuts}
 use Rattle.gd_disk.specs.Runs.{IsLeft, CutsLeft, IsWithin, CanMeet}
-use Rattle.gd_disk.specs.CutRuns.{IsWhole, ComesBehind, FirstComes, IsCutOff, IsFaulted, RunOf}
+use Rattle.gd_disk.specs.CutRuns.{IsCompleteRun, ComesBehind, FirstComes, IsCutOff, IsFaulted, RunOf}
 use Rattle.gd_disk.proofs.Cuts.{no_call, after_write, after_sync, left_then, used_then}
 use Rattle.gd_disk.specs.declared.disk.CutUnit.{CutUnit}
 use Rattle.gd_disk.specs.declared.disk.CutUnit.TheVariants.{Call, Sync}
@@ -91,7 +91,7 @@ comes_then : (j d k : ℕ) (a b : List ArmedCut) → CutsLeft j a b → FirstCom
 comes_then j d k [] b first came = subst (λ (l : List ArmedCut). FirstComes d k l) first came
 comes_then j d k (cut ∷ later) b first came = comes_at j d k cut.unit cut.count first.0 first.2 (subst (λ (l : List ArmedCut). FirstComes d k l) first.1 came)
 
-failed_then : (j k : ℕ) (old mid new : DiskState) → IsWhole j old mid → IsCutOff k mid new ⊎ IsFaulted k mid new → IsCutOff (j + k) old new ⊎ IsFaulted (j + k) old new
+failed_then : (j k : ℕ) (old mid new : DiskState) → IsCompleteRun j old mid → IsCutOff k mid new ⊎ IsFaulted k mid new → IsCutOff (j + k) old new ⊎ IsFaulted (j + k) old new
 failed_then j k old mid new first failed = ⊎_elim
     (λ cut. inl (record {
       done = j + cut.done;
@@ -114,7 +114,7 @@ never_off : {A : Type 0} (disk : DiskState) → disk.is_on ≡ true → disk.is_
 never_off disk on off = let never : true ≡ false = sym on ∙ off in cc never
 
 -- one run after another that was whole
-pub run_on : {T E : Type 0} (j k : ℕ) (r : Result T E) (old mid new : DiskState) → old.is_on ≡ true → mid.is_on ≡ true → IsWhole j old mid → RunOf k r mid new → RunOf (j + k) r old new
+pub run_on : {T E : Type 0} (j k : ℕ) (r : Result T E) (old mid new : DiskState) → old.is_on ≡ true → mid.is_on ≡ true → IsCompleteRun j old mid → RunOf k r mid new → RunOf (j + k) r old new
 run_on j k (Ok x) old mid new was on first rest = record {
   whole = record { made = omega (arith, first.made, rest.whole.made); left = left_then j k old.armed mid.armed new.armed first.left rest.whole.left; no_fault = rest.whole.no_fault ∙ first.no_fault };
   failed = tt;
@@ -152,15 +152,15 @@ run_fails j n e (Err f) old new is le run = record { whole = tt; failed = λ on.
 pub run_gives : {T E S F : Type 0} (n : ℕ) (x : T) (y : S) (old new : DiskState) → RunOf {T = T} {E = E} n (Ok x) old new → RunOf {T = S} {E = F} n (Ok y) old new
 run_gives n x y old new run = record { whole = run.whole; failed = tt; was_off = run.was_off }
 
-pub whole_then : (j k : ℕ) (old mid new : DiskState) → IsWhole j old mid → IsWhole k mid new → IsWhole (j + k) old new
+pub whole_then : (j k : ℕ) (old mid new : DiskState) → IsCompleteRun j old mid → IsCompleteRun k mid new → IsCompleteRun (j + k) old new
 whole_then j k old mid new first second = record { made = omega (arith, first.made, second.made); left = left_then j k old.armed mid.armed new.armed first.left second.left; no_fault = second.no_fault ∙ first.no_fault }
 
 -- calls that make no sync, and then a whole run
-pub after_none : (k : ℕ) (old mid new : DiskState) → IsWhole 0 old mid → IsWhole k mid new → IsWhole k old new
-after_none k old mid new first second = subst (λ (n : ℕ). IsWhole n old new) (omega arith) (whole_then 0 k old mid new first second)
+pub after_none : (k : ℕ) (old mid new : DiskState) → IsCompleteRun 0 old mid → IsCompleteRun k mid new → IsCompleteRun k old new
+after_none k old mid new first second = subst (λ (n : ℕ). IsCompleteRun n old new) (omega arith) (whole_then 0 k old mid new first second)
 
 -- a whole run that began with the power on
-pub whole_run : {T E : Type 0} (n : ℕ) (x : T) (old new : DiskState) → old.is_on ≡ true → IsWhole n old new → RunOf {T = T} {E = E} n (Ok x) old new
+pub whole_run : {T E : Type 0} (n : ℕ) (x : T) (old new : DiskState) → old.is_on ≡ true → IsCompleteRun n old new → RunOf {T = T} {E = E} n (Ok x) old new
 whole_run n x old new was whole = record { whole = whole; failed = tt; was_off = λ off. never_off old was off }
 
 -- of a run with no call, whose number of syncs comes to none
@@ -181,7 +181,7 @@ meets done syncs (cut ∷ later) came = meets_unit done syncs cut.unit cut.count
 pub cut_met : (syncs : ℕ) (old new : DiskState) → IsCutOff syncs old new → CanMeet syncs old.armed
 cut_met syncs old new cut = meets cut.done syncs old.armed cut.came
 
-one_more : (done syncs : ℕ) (armed : List ArmedCut) → FirstComes done syncs armed → length armed ≡ length (used_up armed) + 1
+one_more : (done syncs : ℕ) (armed : List ArmedCut) → FirstComes done syncs armed → length armed ≡ length (later_cuts armed) + 1
 one_more done syncs [] came = absurd came
 one_more done syncs (cut ∷ later) came = omega arith
 

@@ -1,13 +1,13 @@
 -- What a run of several calls leaves of the syncs, the armed cuts and the faults, for cuts of both units.
 use Rattle.std.specs.Prelude.{◌≡◌, ◌⊎◌, ℕ, ◌+◌, ◌<◌, ◌≤◌, max, true, false, List, [], ◌∷◌, Result, OnOk, OnErr}
-use Rattle.gd_disk.specs.Disk.{DiskState, Rose, used_up}
+use Rattle.gd_disk.specs.Disk.{DiskState, Rose, later_cuts}
 use Rattle.gd_disk.specs.Runs.{CutsLeft}
 use Rattle.gd_disk.specs.declared.disk.CutUnit.{CutUnit}
 use Rattle.gd_disk.specs.declared.disk.CutUnit.TheVariants.{Call, Sync}
 use Rattle.gd_disk.specs.declared.disk.ArmedCut.{ArmedCut}
 
 -- a run that succeeds makes all its syncs, and meets neither a cut nor a fault
-pub record IsWhole (syncs : ℕ) (old new : DiskState) : Type 0 where
+pub record IsCompleteRun (syncs : ℕ) (old new : DiskState) : Type 0 where
   pub made : new.syncs ≡ old.syncs + syncs
   pub left : CutsLeft syncs old.armed new.armed
   pub no_fault : new.faults ≡ old.faults
@@ -29,7 +29,7 @@ pub record IsCutOff (syncs : ℕ) (old new : DiskState) : Type 0 where
   pub within : done ≤ syncs
   pub made : new.syncs ≡ old.syncs + done
   pub came : FirstComes done syncs old.armed
-  pub used : new.armed ≡ used_up old.armed
+  pub used : new.armed ≡ later_cuts old.armed
   pub no_fault : new.faults ≡ old.faults
 
 -- a fault ended a run behind some of its syncs, and the cuts are as these left them
@@ -48,6 +48,6 @@ pub record WasOff (old new : DiskState) : Type 0 where
 
 -- a run of this many syncs: whole where it succeeds, else ended by its first cut or by a fault
 pub record RunOf {T E : Type 0} (syncs : ℕ) (result : Result T E) (old new : DiskState) : Type 0 where
-  pub whole : OnOk result (IsWhole syncs old new)
+  pub whole : OnOk result (IsCompleteRun syncs old new)
   pub failed : OnErr result (old.is_on ≡ true → IsCutOff syncs old new ⊎ IsFaulted syncs old new)
   pub was_off : old.is_on ≡ false → WasOff old new

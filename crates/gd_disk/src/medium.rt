@@ -1,6 +1,6 @@
 // What a laboratory in memory keeps of its bytes, and what a loss of power leaves of them.
 ghost use Rattle.std.specs.Prelude.{◌≡◌, ◌⊎◌, ◌≤◌, ◌+◌, ◌<◌, ℕ, List, length, slice_index, replicate, min, IfOk};
-ghost use Rattle.gd_disk.specs.Disk.{written, altered, Torn};
+ghost use Rattle.gd_disk.specs.Disk.{with_bytes, with_mask, Torn};
 ghost use Rattle.gd_disk.specs.Image.{CanBe, IsMarked, IsSpan};
 
 use crate::bytes::put;
@@ -12,7 +12,7 @@ const FIRST_HALF: u8 = 1;
 
 const SECOND_HALF: u8 = 2;
 
-/// At each place the byte of the last good sync, the byte now, and a mark where it was written since, by the half of the
+/// At each place the byte of the last good sync, the byte now, and a mark where it was with_bytes since, by the half of the
 /// write that it stood in. The marks stand from `low` on and before `high`.
 #[derive(Drop)]
 pub(crate) struct Medium {
@@ -43,7 +43,7 @@ impl Medium {
     /// Writes bytes at a place, and marks them.
     pub(crate) fn write(&mut self, at: usize, bytes: &[u8])
         requires { at + length bytes.now ≤ length self.old.current.items }
-        ensures current { self.new.current.items ≡ written at bytes.now self.old.current.items }
+        ensures current { self.new.current.items ≡ with_bytes at bytes.now self.old.current.items }
         ensures loss { (c : List ℕ) → CanBe self.new.marks.items self.new.durable.items c → (d : List ℕ) × CanBe self.old.marks.items self.old.durable.items d × Torn at (length bytes.now) d c }
     {
         write_marked(&self.durable, &mut self.current, &mut self.marks, at, bytes);
@@ -89,7 +89,7 @@ impl Medium {
     pub(crate) fn alter(&mut self, at: usize, mask: u8)
         requires { at < length self.old.current.items }
         ensures len { length self.new.current.items ≡ length self.old.current.items }
-        ensures loss { (c : List ℕ) → CanBe self.new.marks.items self.new.durable.items c → (d : List ℕ) × CanBe self.old.marks.items self.old.durable.items d × (c ≡ altered at mask d) }
+        ensures loss { (c : List ℕ) → CanBe self.new.marks.items self.new.durable.items c → (d : List ℕ) × CanBe self.old.marks.items self.old.durable.items d × (c ≡ with_mask at mask d) }
     {
         alter_byte(&mut self.durable, at, mask);
         alter_byte(&mut self.current, at, mask);
@@ -124,12 +124,12 @@ fn mark(marks: &mut [u8], at: usize, n: usize)
     marks[at + half..at + n].fill(SECOND_HALF);
 }
 
-// Writes, and marks what is written.
+// Writes, and marks what is with_bytes.
 fn write_marked(durable: &[u8], current: &mut [u8], marks: &mut [u8], at: usize, bytes: &[u8])
     requires fits { at + length bytes.now ≤ length durable.now }
     requires marked { IsMarked durable.now current.old marks.old }
     ensures marked { IsMarked durable.now current.new marks.new }
-    ensures written { current.new ≡ written at bytes.now current.old }
+    ensures written { current.new ≡ with_bytes at bytes.now current.old }
     ensures elsewhere { (i : ℕ) → (i < at) ⊎ (at + length bytes.now ≤ i) → slice_index marks.new i ≡ slice_index marks.old i }
     ensures loss { (c : List ℕ) → CanBe marks.new durable.now c → (d : List ℕ) × CanBe marks.old durable.now d × Torn at (length bytes.now) d c }
 {
@@ -183,7 +183,7 @@ fn torn_byte(old: u8, new: u8, mark: u8, torn: u8) -> u8
 // Combines a byte with a mask by exclusive or.
 fn alter_byte(bytes: &mut [u8], at: usize, mask: u8)
     requires { at < length bytes.old }
-    ensures { bytes.new ≡ altered at mask bytes.old }
+    ensures { bytes.new ≡ with_mask at mask bytes.old }
 {
     bytes[at] ^= mask;
 }

@@ -6,11 +6,11 @@ use Rattle.gd_base.specs.declared.game.Game.{Game}
 use Rattle.gd_base.specs.declared.play.Choices.{Choices}
 use Rattle.gd_base.specs.declared.play.StageOpen.{StageOpen}
 use Rattle.gd_base.specs.declared.setup.Setup.{Setup}
-use Rattle.gd_base.specs.Games.Stage.{stage, stage_with, base_win, has_pick, first_stage, is_phase, is_choice, could_turn, are_choices}
+use Rattle.gd_base.specs.Games.Stage.{stage, stage_with, base_win, has_pick, first_stage, is_stage, is_choice, could_turn, are_choices}
 use Rattle.gd_play.proofs.Phases.{one_phase, and_true, pick_open, hold_open, pick_waits}
 use Rattle.gd_play.specs.Judging.{is_choosing, choice_in, asks_for}
 
-never_first : (g : Game) → is_phase (first_stage g) StageOpen.Gamble ≡ true → ⊥
+never_first : (g : Game) → is_stage (first_stage g) StageOpen.Gamble ≡ true → ⊥
 never_first Game.Reels h = cc h
 never_first Game.Poker h = cc h
 
@@ -20,8 +20,8 @@ no_turns : (setup : Setup) (g : Game) (bet : ℕ) (words : List ℕ) (c : Choice
 no_turns setup g bet words c zero unknown h = refl
 no_turns setup g bet words c (suc n) unknown h =
     let before = record c { turns = n } in
-    let t = both (could_turn setup g bet words c n) (is_phase (stage setup g bet words before).phase StageOpen.Gamble) h in
-    let first = ap (λ (m : Option ℕ). is_phase (stage_with setup g words before m).phase StageOpen.Gamble) unknown in
+    let t = both (could_turn setup g bet words c n) (is_stage (stage setup g bet words before).phase StageOpen.Gamble) h in
+    let first = ap (λ (m : Option ℕ). is_stage (stage_with setup g words before m).phase StageOpen.Gamble) unknown in
     absurd (never_first g (sym first ∙ t.1))
 
 first_choice : (setup : Setup) (g : Game) (bet : ℕ) (words : List ℕ) (c : Choices) (x : ℕ) → are_choices setup g bet words c ≡ true
@@ -61,9 +61,9 @@ pub first_asked : (setup : Setup) (g : Game) (bet : ℕ) (words : List ℕ) (c :
     → are_choices setup g bet words c ≡ true → asks_for (stage setup g bet words c).phase event ≡ true
     → are_choices setup g bet words (record c { choice = Some (choice_in event) }) ≡ true
 first_asked setup g bet words c (Event.Pick door) choosing legal asks =
-    let t = both (is_phase (stage setup g bet words c).phase StageOpen.Pick) (nat_le 1 door && nat_le door 5) asks in
+    let t = both (is_stage (stage setup g bet words c).phase StageOpen.Pick) (nat_le 1 door && nat_le door 5) asks in
     picked setup g bet words c door legal (one_phase _ _ t.0) t.1
 first_asked setup g bet words c (Event.Hold mask) choosing legal asks =
-    let t = both (is_phase (stage setup g bet words c).phase StageOpen.Hold) (nat_lt mask 32) asks in
+    let t = both (is_stage (stage setup g bet words c).phase StageOpen.Hold) (nat_lt mask 32) asks in
     held setup g bet words c mask legal (one_phase _ _ t.0) t.1
 first_asked setup g bet words c _ choosing legal asks = absurd (cc choosing)

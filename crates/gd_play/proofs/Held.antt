@@ -10,8 +10,8 @@ use Rattle.gd_base.specs.declared.play.StageOpen.{StageOpen}
 use Rattle.gd_base.specs.declared.setup.Setup.{Setup}
 use Rattle.gd_base.specs.Histories.Credit.{wager}
 use Rattle.gd_base.specs.Histories.Rounds.{choices_of}
-use Rattle.gd_base.specs.Payloads.ViewRules.{open_is, record_rules, is_play_record, is_played, is_in}
-use Rattle.gd_base.specs.Games.Stage.{stage, is_bet, is_phase, is_choice, could_turn, are_choices}
+use Rattle.gd_base.specs.Payloads.ViewRules.{is_open_as, record_rules, is_play_record, is_played, is_in}
+use Rattle.gd_base.specs.Games.Stage.{stage, is_bet, is_stage, is_choice, could_turn, are_choices}
 use Rattle.gd_play.proofs.Fresh.{first_asked}
 use Rattle.gd_play.proofs.Phases.{one_phase, phase_itself, and_true, or_left, only_left}
 use Rattle.gd_play.proofs.Turns.{below_five}
@@ -43,7 +43,7 @@ held setup has_game play p phase is kept =
     record { game = w.0; bet = w.1; choices = v.1; win = eqb-true p.win (stage setup p.game p.bet p.words (choices_of p)).win u.1; left = t.1 }
 
 -- the machine's stage is that of the play's words and choices, as long as it isn't Ended
-pub stage_held : (setup : Setup) (p : PlayRecord) (phase : StageOpen) → is_left setup p phase ≡ true → is_phase phase StageOpen.Ended ≡ false
+pub stage_held : (setup : Setup) (p : PlayRecord) (phase : StageOpen) → is_left setup p phase ≡ true → is_stage phase StageOpen.Ended ≡ false
     → own_stage setup p ≡ phase
 stage_held setup p StageOpen.Pick left going = one_phase _ _ (only_left (is_in setup p StageOpen.Pick) (is_in setup p StageOpen.Gamble) left)
 stage_held setup p StageOpen.Hold left going = one_phase _ _ (only_left (is_in setup p StageOpen.Hold) (is_in setup p StageOpen.Gamble) left)
@@ -51,7 +51,7 @@ stage_held setup p StageOpen.Gamble left going = one_phase _ _ (only_left (is_in
 stage_held setup p StageOpen.Ended left going = absurd (cc going)
 
 -- an ended play asks for nothing more
-still_going : (phase : StageOpen) (event : Event) → is_choosing event ≡ true → asks_for phase event ≡ true → is_phase phase StageOpen.Ended ≡ false
+still_going : (phase : StageOpen) (event : Event) → is_choosing event ≡ true → asks_for phase event ≡ true → is_stage phase StageOpen.Ended ≡ false
 still_going StageOpen.Ended (Event.Pick door) choosing asks = absurd (cc asks)
 still_going StageOpen.Ended (Event.Hold mask) choosing asks = absurd (cc asks)
 still_going StageOpen.Ended _ choosing asks = absurd (cc choosing)
@@ -83,15 +83,15 @@ pub gamble_held : (setup : Setup) (has_game : Game → Bool) (play : Option Play
     → phase ≡ StageOpen.Gamble → are_kept setup has_game play phase ≡ true → GambleFacts setup p
 gamble_held setup has_game play p phase is gamble kept =
     let f = held setup has_game play p phase is kept in
-    let same = stage_held setup p phase f.left (ap (λ (s : StageOpen). is_phase s StageOpen.Ended) gamble) ∙ gamble in
+    let same = stage_held setup p phase f.left (ap (λ (s : StageOpen). is_stage s StageOpen.Ended) gamble) ∙ gamble in
     let could = both (is_choice setup p.game p.words p.choice && nat_lt p.colours (2 ^ p.turns)) (could_turn setup p.game p.bet p.words (choices_of p) p.turns) f.choices in
     record { turns = below_five setup p.game p.bet p.words (choices_of p) could.1 same; choices = f.choices; stage = same }
 
 -- the choices of a play that keeps the rules of an open play
-pub open_choices : (setup : Setup) (play : Option PlayRecord) (p : PlayRecord) → play ≡ Some p → open_is (is_open_play setup) play ≡ true
+pub open_choices : (setup : Setup) (play : Option PlayRecord) (p : PlayRecord) → play ≡ Some p → is_open_as (is_open_play setup) play ≡ true
     → are_choices setup p.game p.bet p.words (choices_of p) ≡ true
 open_choices setup play p is rules =
-    let own : is_open_play setup p ≡ true = sym (ap (open_is (is_open_play setup)) is) ∙ rules in
+    let own : is_open_play setup p ≡ true = sym (ap (is_open_as (is_open_play setup)) is) ∙ rules in
     let going = not (is_in setup p StageOpen.Ended) in
     let t = both (is_play_record p && is_played setup p && going) (p.after == 0) own in
     let u = both (is_play_record p && is_played setup p) going t.0 in
@@ -105,8 +105,8 @@ record_bet : (p : PlayRecord) → is_play_record p ≡ true → is_bet p.game p.
 record_bet p rules = (all_told (record_rules p) rules).0
 
 -- the rules of an open play, taken apart
-pub kept_parts : (setup : Setup) (has_game : Game → Bool) (play : Option PlayRecord) → open_is (λ p. has_game p.game) play ≡ true
-    → open_is (is_open_play setup) play ≡ true → are_kept setup has_game play (phase_of setup play) ≡ true
+pub kept_parts : (setup : Setup) (has_game : Game → Bool) (play : Option PlayRecord) → is_open_as (λ p. has_game p.game) play ≡ true
+    → is_open_as (is_open_play setup) play ≡ true → are_kept setup has_game play (phase_of setup play) ≡ true
 kept_parts setup has_game None games rules = refl
 kept_parts setup has_game (Some p) games rules =
     let choices = are_choices setup p.game p.bet p.words (choices_of p) in
@@ -122,4 +122,4 @@ kept_parts setup has_game (Some p) games rules =
     (and_true (has_game p.game && is_bet p.game p.bet && choices) win
     (and_true (has_game p.game && is_bet p.game p.bet) choices (and_true (has_game p.game) (is_bet p.game p.bet) games bet) (both (p.wager == wager setup p.bet) choices w.0).1)
     w.1)
-    (or_left (is_in setup p own) (is_phase own StageOpen.Ended && is_in setup p StageOpen.Gamble) (phase_itself own))
+    (or_left (is_in setup p own) (is_stage own StageOpen.Ended && is_in setup p StageOpen.Gamble) (phase_itself own))

@@ -5,9 +5,9 @@ use Rattle.gd_base.specs.declared.play.Choices.{Choices}
 use Rattle.gd_base.specs.declared.play.Stage.{Stage}
 use Rattle.gd_base.specs.declared.play.StageOpen.{StageOpen}
 use Rattle.gd_base.specs.declared.setup.Setup.{Setup}
-use Rattle.gd_base.specs.Games.Stage.{is_phase, stage_with, base_win, has_pick, lines_win, win_after}
+use Rattle.gd_base.specs.Games.Stage.{is_stage, stage_with, base_win, has_pick, lines_win, win_after}
 
-pub one_phase : (a b : StageOpen) → is_phase a b ≡ true → a ≡ b
+pub one_phase : (a b : StageOpen) → is_stage a b ≡ true → a ≡ b
 one_phase StageOpen.Pick StageOpen.Pick h = refl
 one_phase StageOpen.Hold StageOpen.Hold h = refl
 one_phase StageOpen.Gamble StageOpen.Gamble h = refl
@@ -25,7 +25,7 @@ one_phase StageOpen.Ended StageOpen.Pick h = cc
 one_phase StageOpen.Ended StageOpen.Hold h = cc
 one_phase StageOpen.Ended StageOpen.Gamble h = cc
 
-pub phase_itself : (a : StageOpen) → is_phase a a ≡ true
+pub phase_itself : (a : StageOpen) → is_stage a a ≡ true
 phase_itself StageOpen.Pick = refl
 phase_itself StageOpen.Hold = refl
 phase_itself StageOpen.Gamble = refl

@@ -13,7 +13,7 @@ use Rattle.gd_base.specs.declared.play.StageOpen.{StageOpen}
 use Rattle.gd_base.specs.declared.setup.Setup.{Setup}
 use Rattle.gd_base.specs.Games.Chance.{has_bit, is_red}
 use Rattle.gd_base.specs.Histories.Rounds.{colour_bit}
-use Rattle.gd_base.specs.Games.Stage.{stage, stage_with, base_win, gamble_stage, gamble_card, is_right, win_after, is_phase, is_choice, could_turn, are_choices}
+use Rattle.gd_base.specs.Games.Stage.{stage, stage_with, base_win, gamble_stage, gamble_card, is_right, win_after, is_stage, is_choice, could_turn, are_choices}
 use Rattle.gd_play.proofs.Phases.{one_phase, and_true, turns_left}
 
 -- bit i doesn't change where a multiple of a higher power is added
@@ -62,8 +62,8 @@ same_could : (setup : Setup) (g : Game) (bet : ℕ) (words : List ℕ) (choice :
 same_could setup g bet words choice t u zero a b same = refl
 same_could setup g bet words choice t u (suc n) a b same =
     let inner = same_could setup g bet words choice t u n a b (fewer n a b same) in
-    let phase = ap (λ (s : Stage). is_phase s.phase StageOpen.Gamble) (same_stage setup g bet words choice n a b (fewer n a b same)) in
-    ap (λ (v : Bool). v && is_phase (stage setup g bet words (record { choice = choice; turns = n; colours = b })).phase StageOpen.Gamble) inner
+    let phase = ap (λ (s : Stage). is_stage s.phase StageOpen.Gamble) (same_stage setup g bet words choice n a b (fewer n a b same)) in
+    ap (λ (v : Bool). v && is_stage (stage setup g bet words (record { choice = choice; turns = n; colours = b })).phase StageOpen.Gamble) inner
     ∙ ap (λ (v : Bool). could_turn setup g bet words (record { choice = choice; turns = u; colours = a }) n && v) phase
 
 -- ================ how many turns there can be
@@ -72,7 +72,7 @@ pub at_most_five : (setup : Setup) (g : Game) (bet : ℕ) (words : List ℕ) (c 
 at_most_five setup g bet words c zero h = omega arith
 at_most_five setup g bet words c (suc n) h =
     let before = record c { turns = n } in
-    let t = both (could_turn setup g bet words c n) (is_phase (stage setup g bet words before).phase StageOpen.Gamble) h in
+    let t = both (could_turn setup g bet words c n) (is_stage (stage setup g bet words before).phase StageOpen.Gamble) h in
     let inner = at_most_five setup g bet words c n t.0 in
     let ne : n ≢ 5 = eqb-false n 5 (turns_left setup g words before (base_win setup g bet words c.choice) (one_phase _ _ t.1)) in
     omega (arith, inner, ne)
@@ -106,11 +106,11 @@ one_turn_more setup g bet words c colour legal shown =
     let same : SameBits c.turns c.colours more = λ i h. same_below c.colours bit c.turns i h in
     let after = record c { turns = c.turns + 1; colours = more } in
     let could : could_turn setup g bet words after c.turns ≡ true = same_could setup g bet words c.choice (c.turns + 1) c.turns c.turns c.colours more same ∙ outer.1 in
-    let gamble : is_phase (stage setup g bet words (record after { turns = c.turns })).phase StageOpen.Gamble ≡ true =
-    ap (λ (s : Stage). is_phase s.phase StageOpen.Gamble) (same_stage setup g bet words c.choice c.turns c.colours more same) ∙ ap (λ (p : StageOpen). is_phase p StageOpen.Gamble) shown in
+    let gamble : is_stage (stage setup g bet words (record after { turns = c.turns })).phase StageOpen.Gamble ≡ true =
+    ap (λ (s : Stage). is_stage s.phase StageOpen.Gamble) (same_stage setup g bet words c.choice c.turns c.colours more same) ∙ ap (λ (p : StageOpen). is_stage p StageOpen.Gamble) shown in
     let turns : could_turn setup g bet words after (c.turns + 1) ≡ true =
     ap (could_turn setup g bet words after) (add-one c.turns)
-    ∙ and_true (could_turn setup g bet words after c.turns) (is_phase (stage setup g bet words (record after { turns = c.turns })).phase StageOpen.Gamble) could gamble in
+    ∙ and_true (could_turn setup g bet words after c.turns) (is_stage (stage setup g bet words (record after { turns = c.turns })).phase StageOpen.Gamble) could gamble in
     let small : nat_lt more (2 ^ (c.turns + 1)) ≡ true =
     ap (λ (n : ℕ). nat_lt more (2 ^ n)) (add-one c.turns) ∙ lt-ltb more (2 ^ suc c.turns) (room c.colours bit c.turns (bit_small colour) (ltb-true c.colours (2 ^ c.turns) inner.1)) in
     and_true (is_choice setup g words c.choice && nat_lt more (2 ^ (c.turns + 1))) (could_turn setup g bet words after (c.turns + 1))

@@ -8,9 +8,9 @@ use Rattle.gd_base.specs.Histories.Conditions.{lock}
 use Rattle.gd_base.specs.Histories.Credit.{wager}
 use Rattle.gd_base.specs.Histories.Entry.{Entry, is_taken}
 use Rattle.gd_base.specs.Histories.Recall.{play_record}
-use Rattle.gd_base.specs.Histories.Rounds.{Round, round_of, choices_of, no_choices, open_after, ended_after, moved, is_over}
+use Rattle.gd_base.specs.Histories.Rounds.{Round, round_of, choices_of, no_choices, open_after, ended_after, moved_round, is_over}
 use Rattle.gd_base.specs.Judging.Rule.{rule}
-use Rattle.gd_base.specs.Games.Stage.{is_phase}
+use Rattle.gd_base.specs.Games.Stage.{is_stage}
 use Rattle.gd_base.specs.Histories.View.{View}
 use Rattle.gd_play.specs.Judging.{refusal, reply_of}
 use Rattle.gd_play.specs.Moving.{replayed, play_after, phase_after, phase_of}
@@ -31,10 +31,10 @@ JudgesAsRule =
 
 -- the round of a play, by whether it has ended
 abbrev pub going_on : StageOpen → Option PlayRecord → Option Round
-going_on phase play = if is_phase phase StageOpen.Ended then None else option_map round_of play
+going_on phase play = if is_stage phase StageOpen.Ended then None else option_map round_of play
 
 abbrev pub gone : StageOpen → Option PlayRecord → Option Round
-gone phase play = if is_phase phase StageOpen.Ended then option_map round_of play else None
+gone phase play = if is_stage phase StageOpen.Ended then option_map round_of play else None
 
 -- After a taken event the machine's play is the history's open one, or the one that the entry ended.
 abbrev pub MovesAsHistory : Type 0
@@ -47,12 +47,12 @@ MovesAsHistory =
 abbrev pub BeginsAsHistory : Type 0
 BeginsAsHistory =
     (setup : Setup) (p : PlayRecord) → choices_of p ≡ no_choices
-    → (moved p.place (Some (p.index, p.words)) None (Event.Play p.game p.bet) ≡ Some (round_of p))
-    × (is_phase (phase_of setup (Some p)) StageOpen.Ended ≡ is_over setup (Event.Play p.game p.bet) (round_of p))
+    → (moved_round p.place (Some (p.index, p.words)) None (Event.Play p.game p.bet) ≡ Some (round_of p))
+    × (is_stage (phase_of setup (Some p)) StageOpen.Ended ≡ is_over setup (Event.Play p.game p.bet) (round_of p))
 
 -- Its record is the history's, where it has the wager of its bet.
 abbrev pub KeepsRecord : Type 0
 KeepsRecord =
     (setup : Setup) (p : PlayRecord) (event : Event) (r : Round) → p.wager ≡ wager setup p.bet
     → (replayed setup p (round_of p) ≡ play_record setup (p.number, p.before) p.after (round_of p))
-    × (IsTrue (is_move event) → moved p.place None (Some (round_of p)) event ≡ Some r → replayed setup p r ≡ play_record setup (p.number, p.before) p.after r)
+    × (IsTrue (is_move event) → moved_round p.place None (Some (round_of p)) event ≡ Some r → replayed setup p r ≡ play_record setup (p.number, p.before) p.after r)

@@ -6,7 +6,7 @@ use Rattle.gd_base.specs.declared.refusal.Reply.{Reply}
 use Rattle.gd_base.specs.declared.play.PlayRecord.{PlayRecord}
 use Rattle.gd_base.specs.declared.play.StageOpen.{StageOpen}
 use Rattle.gd_base.specs.Judging.Rule.{unless}
-use Rattle.gd_base.specs.Games.Stage.{is_phase}
+use Rattle.gd_base.specs.Games.Stage.{is_stage}
 
 -- a pick or a hold
 abbrev pub is_choosing : Event → Bool
@@ -22,10 +22,10 @@ choice_in _ = 0
 
 -- whether a stage asks for an event
 abbrev pub asks_for : StageOpen → Event → Bool
-asks_for phase (Event.Pick door) = is_phase phase StageOpen.Pick && (nat_le 1 door && nat_le door 5)
-asks_for phase (Event.Hold mask) = is_phase phase StageOpen.Hold && nat_lt mask 32
-asks_for phase (Event.Gamble colour) = is_phase phase StageOpen.Gamble
-asks_for phase Event.Take = is_phase phase StageOpen.Gamble
+asks_for phase (Event.Pick door) = is_stage phase StageOpen.Pick && (nat_le 1 door && nat_le door 5)
+asks_for phase (Event.Hold mask) = is_stage phase StageOpen.Hold && nat_lt mask 32
+asks_for phase (Event.Gamble colour) = is_stage phase StageOpen.Gamble
+asks_for phase Event.Take = is_stage phase StageOpen.Gamble
 asks_for phase _ = false
 
 -- why an event is refused: no play is open, or its stage doesn't ask for the event

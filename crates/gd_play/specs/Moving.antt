@@ -4,7 +4,7 @@ use Rattle.gd_base.specs.declared.event.Event.{Event}
 use Rattle.gd_base.specs.declared.play.PlayRecord.{PlayRecord}
 use Rattle.gd_base.specs.declared.play.StageOpen.{StageOpen}
 use Rattle.gd_base.specs.declared.setup.Setup.{Setup}
-use Rattle.gd_base.specs.Histories.Rounds.{Round, round_of, round_stage, moved, is_over}
+use Rattle.gd_base.specs.Histories.Rounds.{Round, round_of, round_stage, moved_round, is_over}
 
 -- a play with the choices of a round, and with the win of their stage
 abbrev pub replayed : Setup → PlayRecord → Round → PlayRecord
@@ -14,7 +14,7 @@ replayed setup p r =
 -- the open play after an event that moves it on
 abbrev pub play_after : Setup → Event → Option PlayRecord → Option PlayRecord
 play_after setup event None = None
-play_after setup event (Some p) = option_map (replayed setup p) (moved p.place None (Some (round_of p)) event)
+play_after setup event (Some p) = option_map (replayed setup p) (moved_round p.place None (Some (round_of p)) event)
 
 -- the stage that is open in a round after an event: none where the event ends the play
 abbrev pub stage_left : Setup → Event → Option Round → StageOpen
@@ -23,7 +23,7 @@ stage_left setup event (Some r) = if is_over setup event r then StageOpen.Ended 
 
 abbrev pub phase_after : Setup → Event → Option PlayRecord → StageOpen
 phase_after setup event None = StageOpen.Ended
-phase_after setup event (Some p) = stage_left setup event (moved p.place None (Some (round_of p)) event)
+phase_after setup event (Some p) = stage_left setup event (moved_round p.place None (Some (round_of p)) event)
 
 -- the stage that is open in a play, by its words and choices
 abbrev pub phase_of : Setup → Option PlayRecord → StageOpen

@@ -6,7 +6,7 @@ use Rattle.gd_base.specs.declared.play.StageOpen.{StageOpen}
 use Rattle.gd_base.specs.declared.setup.Setup.{Setup}
 use Rattle.gd_base.specs.Histories.Rounds.{choices_of}
 use Rattle.gd_base.specs.Payloads.ViewRules.{is_play_record, is_played, is_in}
-use Rattle.gd_base.specs.Games.Stage.{stage, is_bet, is_phase, are_choices}
+use Rattle.gd_base.specs.Games.Stage.{stage, is_bet, is_stage, are_choices}
 
 -- the rules of an open play in a payload, but for its place among the entries
 abbrev pub is_open_play : Setup → PlayRecord → Bool
@@ -20,9 +20,9 @@ is_in_order setup has_game p =
 
 -- the stage of its words and choices is open, or it was taken in its gamble stage
 abbrev pub is_left : Setup → PlayRecord → StageOpen → Bool
-is_left setup p phase = is_in setup p phase || (is_phase phase StageOpen.Ended && is_in setup p StageOpen.Gamble)
+is_left setup p phase = is_in setup p phase || (is_stage phase StageOpen.Ended && is_in setup p StageOpen.Gamble)
 
 -- what holds of the play and the stage of a machine
 abbrev pub are_kept : Setup → (Game → Bool) → Option PlayRecord → StageOpen → Bool
-are_kept setup has_game None phase = is_phase phase StageOpen.Ended
+are_kept setup has_game None phase = is_stage phase StageOpen.Ended
 are_kept setup has_game (Some p) phase = is_in_order setup has_game p && is_left setup p phase

@@ -1,7 +1,7 @@
 //! The machine of one play.
 
 ghost use Rattle.std.specs.Prelude.{◌≡◌, IsTrue, IsSome, OnOk, OnErr, IfOk, Some, None, option_map, option_copied};
-ghost use Rattle.gd_base.specs.Payloads.ViewRules.{open_is};
+ghost use Rattle.gd_base.specs.Payloads.ViewRules.{is_open_as};
 ghost use Rattle.gd_play.specs.Moving.{phase_of};
 ghost use Rattle.gd_play.specs.Rules.{are_kept, is_open_play};
 
@@ -31,8 +31,8 @@ impl<P: Paytable> PlayMachine<P> {
     /// A machine with this open play, or with none. The play keeps the rules of an open play in a payload, and its stage
     /// isn't Ended.
     pub fn from_parts(table: P, open_play: Option<PlayRecord>) -> Self
-        requires games { IsTrue (open_is (λ p. P.has_game table p.game) open_play) }
-        requires rules { IsTrue (open_is (is_open_play (P.setup table)) open_play) }
+        requires games { IsTrue (is_open_as (λ p. P.has_game table p.game) open_play) }
+        requires rules { IsTrue (is_open_as (is_open_play (P.setup table)) open_play) }
         ensures table { machine_table result ≡ table }
         ensures play { machine_play result ≡ open_play }
         ensures phase { machine_phase result ≡ phase_of (P.setup table) open_play }
@@ -175,8 +175,8 @@ impl<P: Paytable> PlayMachine<P> {
 
 // The stage that is open in a play, if there is one.
 fn open_phase<P: Paytable>(table: &P, play: &Option<PlayRecord>) -> StageOpen
-    requires games { IsTrue (open_is (λ p. P.has_game table.now p.game) play.now) }
-    requires rules { IsTrue (open_is (is_open_play (P.setup table.now)) play.now) }
+    requires games { IsTrue (is_open_as (λ p. P.has_game table.now p.game) play.now) }
+    requires rules { IsTrue (is_open_as (is_open_play (P.setup table.now)) play.now) }
     ensures { result ≡ phase_of (P.setup table.now) play.now }
 {
     match play {

@@ -2,7 +2,7 @@
 use Rattle.std.proofs.Common.{◌≡◌, ◌⊎◌, inl, inr, ⊎_elim, ℕ, zero, suc, ◌+◌, ◌<◌, ◌≤◌, ◌∷◌, List, length, take, drop, get_or, sym, ◌∙◌, ap, subst, arith, Option, Some, None}
 use Rattle.std.proofs.lemmas.Bool.{cases_eq, cases_lt}
 use Rattle.std.proofs.lemmas.List.{get_or_past}
-use Rattle.gd_disk.specs.Disk.{DiskState, IfTold, Stands, Torn}
+use Rattle.gd_disk.specs.Disk.{DiskState, IfTold, Unchanged, Torn}
 use Rattle.gd_disk.specs.Runs.{LeavesOnly}
 use Rattle.gd_disk.proofs.Runs.{and_then, at_end, weaker}
 use Rattle.gd_disk.proofs.Written.{at_byte, byte_before}
@@ -73,7 +73,7 @@ module _ (l : Layout) (apart : l.a + copy_len l.pages ≤ l.b) (seen : Option (L
   }
 
 module _ (l : Layout) (old : DiskState) (apart : l.a + copy_len l.pages ≤ l.b) where
-  pub while_reading_any : (s1 : DiskState) → LeavesOnly old s1 (From old Stands) → LeavesOnly old s1 (From old (AreShuttingAny l old.seen))
+  pub while_reading_any : (s1 : DiskState) → LeavesOnly old s1 (From old Unchanged) → LeavesOnly old s1 (From old (AreShuttingAny l old.seen))
   while_reading_any s1 run = weaker old s1 _ _ run (λ c from. (from.0, from.1, stand_any l apart old.seen from.0 c from.2))
 
   pub while_a_any : (gate : ℕ) (s1 : DiskState) → IfTold old.seen (λ image. get_or image l.a 0 ≡ gate) → LeavesOnly old s1 (From old (IsOverOpen l.a gate)) → LeavesOnly old s1 (From old (AreShuttingAny l old.seen))

@@ -1,7 +1,7 @@
 -- What each moment of a making leaves.
 use Rattle.std.proofs.Common.{◌≡◌, ◌⊎◌, inl, inr, ⊎_elim, ℕ, ◌+◌, ◌*◌, ◌^◌, ◌<◌, ◌≤◌, ◌==◌, if◌then◌else◌, true, false, [], ◌∷◌, List, length, get_or, refl, sym, ◌∙◌, ap, subst, arith, Option, Some, None}
 use Rattle.std.proofs.lemmas.Bool.{cases_eq}
-use Rattle.gd_disk.specs.Disk.{DiskState, IfTold, IsSynced, Loses, Stands, written, seen_written}
+use Rattle.gd_disk.specs.Disk.{DiskState, IfTold, IsSynced, Loses, Unchanged, with_bytes, seen_with_bytes}
 use Rattle.gd_disk.specs.Runs.{LeavesOnly}
 use Rattle.gd_disk.proofs.Runs.{and_then, at_end, goes_on, weaker}
 use Rattle.gd_disk.proofs.Written.{byte_before, byte_behind, torn_refl, torn-written}
@@ -15,7 +15,7 @@ use Rattle.gd_store.proofs.CopyMoments.{shutting, told}
 use Rattle.gd_store.proofs.Images.{first_of, part_before, part_behind}
 use Rattle.gd_disk.specs.declared.lengths.TheConstants.{PAGE_LEN}
 
--- a gate that held this byte, after it was written over where it was open
+-- a gate that held this byte, after it was with_bytes over where it was open
 shut_or_same : (at gate : ℕ) (d c : List ℕ) → at < length d → get_or d at 0 ≡ gate → IsOverOpen at gate d c → IsShut at c ⊎ (c ≡ d)
 shut_or_same at gate d c lt is over = elim (cases_eq gate 0xA5) [
   | inl is_open ↦ (shutting at d c lt (is ∙ is_open) over.elsewhere).shut_or_same
@@ -49,25 +49,25 @@ module _ (l : Layout) (apart : l.a + copy_len l.pages ≤ l.b) where
         (shut_or_same l.b gate_b m c (omega (arith, first.elsewhere.same_length, lt)) (byte_behind l.a 1 l.b d m (omega (arith, apart)) first.elsewhere ∙ is_b) second);
   }
 
--- a fact of what a read gives, after a gate may have been written over
-shut_told : (seen : Option (List ℕ)) (at gate : ℕ) (P Q : List ℕ → Type 0) → ((d : List ℕ) → seen ≡ Some d → P d → Q (written at (0 ∷ []) d)) → ((d : List ℕ) → P d → Q d) → IfTold seen P → IfTold (seen_shut at gate seen) Q
+-- a fact of what a read gives, after a gate may have been with_bytes over
+shut_told : (seen : Option (List ℕ)) (at gate : ℕ) (P Q : List ℕ → Type 0) → ((d : List ℕ) → seen ≡ Some d → P d → Q (with_bytes at (0 ∷ []) d)) → ((d : List ℕ) → P d → Q d) → IfTold seen P → IfTold (seen_shut at gate seen) Q
 shut_told None at gate P Q from same fact = elim (gate == 0xA5) as (λ b. IfTold (if b then None else None) Q) [ true ↦ tt | false ↦ tt ]
-shut_told (Some d) at gate P Q from same fact = elim (gate == 0xA5) as (λ b. IfTold (if b then Some (written at (0 ∷ []) d) else Some d) Q) [ true ↦ from d refl fact | false ↦ same d fact ]
+shut_told (Some d) at gate P Q from same fact = elim (gate == 0xA5) as (λ b. IfTold (if b then Some (with_bytes at (0 ∷ []) d) else Some d) Q) [ true ↦ from d refl fact | false ↦ same d fact ]
 
--- gate b is as it was read, after gate a may have been written over
+-- gate b is as it was read, after gate a may have been with_bytes over
 pub gate_b_stands : (l : Layout) (gate_a gate_b : ℕ) (disk : DiskState) → LiesWithin l disk.size → IfTold disk.seen (λ image. get_or image l.b 0 ≡ gate_b) → IfTold (seen_shut l.a gate_a disk.seen) (λ image. get_or image l.b 0 ≡ gate_b)
 gate_b_stands l gate_a gate_b disk within fact = shut_told disk.seen l.a gate_a (λ image. get_or image l.b 0 ≡ gate_b) (λ image. get_or image l.b 0 ≡ gate_b) (λ d is here.
     let long : length d ≡ disk.size = disk.whole d is in
-    byte_behind l.a 1 l.b d (written l.a (0 ∷ []) d) (omega (arith, within.apart)) (torn-written l.a (0 ∷ []) d (omega (arith, long, within.apart, within.within))) ∙ here) (λ d here. here) fact
+    byte_behind l.a 1 l.b d (with_bytes l.a (0 ∷ []) d) (omega (arith, within.apart)) (torn-written l.a (0 ∷ []) d (omega (arith, long, within.apart, within.within))) ∙ here) (λ d here. here) fact
 
 -- one read after another
-pub reads : (old s1 s2 : DiskState) → LeavesOnly old s1 (From old Stands) → LeavesOnly s1 s2 (From s1 Stands) → LeavesOnly old s2 (From old Stands)
+pub reads : (old s1 s2 : DiskState) → LeavesOnly old s1 (From old Unchanged) → LeavesOnly s1 s2 (From s1 Unchanged) → LeavesOnly old s2 (From old Unchanged)
 reads old s1 s2 first second = and_then old s1 s2 _ _ _ first second (λ c p. p) (λ c from.
     let back = at_end old s1 _ first from.0 from.1 in
     (back.0, back.1, from.2 ∙ back.2))
 
 -- and a write over a gate
-pub over_read : (at gate : ℕ) (old s1 s2 : DiskState) → LeavesOnly old s1 (From old Stands) → LeavesOnly s1 s2 (From s1 (IsOverOpen at gate)) → LeavesOnly old s2 (From old (IsOverOpen at gate))
+pub over_read : (at gate : ℕ) (old s1 s2 : DiskState) → LeavesOnly old s1 (From old Unchanged) → LeavesOnly s1 s2 (From s1 (IsOverOpen at gate)) → LeavesOnly old s2 (From old (IsOverOpen at gate))
 over_read at gate old s1 s2 first second = and_then old s1 s2 _ _ _ first second
     (λ c from. (from.0, from.1, subst (λ (x : List ℕ). IsOverOpen at gate from.0 x) (sym from.2) (record { elsewhere = torn_refl at 1 from.0; stands = λ other. refl })))
     (λ c from.
@@ -75,13 +75,13 @@ over_read at gate old s1 s2 first second = and_then old s1 s2 _ _ _ first second
     (back.0, back.1, subst (λ (x : List ℕ). IsOverOpen at gate x c) back.2 from.2))
 
 -- and a sync
-pub and_sync : (S : List ℕ → List ℕ → Type 0) (old s1 s2 : DiskState) → LeavesOnly old s1 (From old S) → Loses Stands s1 s2 → LeavesOnly old s2 (From old S)
-and_sync S old s1 s2 so_far sync = goes_on old s1 s2 _ Stands so_far sync (λ c may.
+pub and_sync : (S : List ℕ → List ℕ → Type 0) (old s1 s2 : DiskState) → LeavesOnly old s1 (From old S) → Loses Unchanged s1 s2 → LeavesOnly old s2 (From old S)
+and_sync S old s1 s2 so_far sync = goes_on old s1 s2 _ Unchanged so_far sync (λ c may.
     let from = sync.now c may in
     subst (λ (x : List ℕ). From old S x) (sym from.2) (at_end old s1 _ so_far from.0 from.1))
 
 module _ (l : Layout) (old : DiskState) (within : LiesWithin l old.size) (synced : IsSynced old) where
-  pub while_reading : (s1 : DiskState) → LeavesOnly old s1 (From old Stands) → LeavesOnly old s1 (From old (AreShutting l))
+  pub while_reading : (s1 : DiskState) → LeavesOnly old s1 (From old Unchanged) → LeavesOnly old s1 (From old (AreShutting l))
   while_reading s1 run = weaker old s1 _ _ run (λ c from. (from.0, from.1, all_stand l within.apart from.0 c from.2))
 
   pub while_shutting_a : (gate : ℕ) (s1 : DiskState) → IfTold old.seen (λ image. get_or image l.a 0 ≡ gate) → LeavesOnly old s1 (From old (IsOverOpen l.a gate)) → LeavesOnly old s1 (From old (AreShutting l))
@@ -122,16 +122,16 @@ module _ (l : Layout) (p copy : List ℕ) (long : length p ≡ PAGE_LEN * l.page
         w.whole_or_shut;
   }
 
-  -- copy a is written, and copy b is shut
+  -- copy a is with_bytes, and copy b is shut
   abbrev IsHalf : List ℕ → Type 0
   IsHalf c = IsCopy l 0 p (copy_a l c) × IsShut l.b c
 
-  half : (s1 s2 : DiskState) → l.b + copy_len l.pages ≤ s1.size → IfTold s1.seen (AreShut l) → s2.seen ≡ seen_written l.a copy s1.seen → IfTold s2.seen IsHalf
+  half : (s1 s2 : DiskState) → l.b + copy_len l.pages ≤ s1.size → IfTold s1.seen (AreShut l) → s2.seen ≡ seen_with_bytes l.a copy s1.seen → IfTold s2.seen IsHalf
   half s1 s2 room shut seen = subst (λ (s : Option (List ℕ)). IfTold s IsHalf) (sym seen) (told_written s1.seen l.a copy (AreShut l) IsHalf (λ d is here.
       let whole : length d ≡ s1.size = s1.whole d is in
       let torn = torn-written l.a copy d (omega (arith, whole, room, len_copy, apart)) in (
-        subst (λ (x : List ℕ). IsCopy l 0 p (copy_a l (written l.a x d))) (sym is_copy) (written_a l 0 p zero_range long apart d (omega (arith, whole, room))).0,
-        shut_too l.b d (written l.a copy d) (byte_behind l.a (length copy) l.b d (written l.a copy d) (omega (arith, len_copy, apart)) torn) here.1,
+        subst (λ (x : List ℕ). IsCopy l 0 p (copy_a l (with_bytes l.a x d))) (sym is_copy) (written_a l 0 p zero_range long apart d (omega (arith, whole, room))).0,
+        shut_too l.b d (with_bytes l.a copy d) (byte_behind l.a (length copy) l.b d (with_bytes l.a copy d) (omega (arith, len_copy, apart)) torn) here.1,
       )) shut)
 
   -- a making whose first step leaves this
@@ -148,7 +148,7 @@ module _ (l : Layout) (p copy : List ℕ) (long : length p ≡ PAGE_LEN * l.page
           let back = at_end old s1 _ shutting_run from.0 from.1 in
           (back.0, back.1, inr (inl (writing_a from.0 c (told s1 (AreShut l) from.0 synced_1 from.1 shut_1) from.2))))
 
-      pub made_b : (s3 : DiskState) → l.b + copy_len l.pages ≤ s1.size → IsSynced s2 → s2.seen ≡ seen_written l.a copy s1.seen → LeavesOnly s2 s3 (From s2 (IsWriting l.b copy)) → LeavesOnly old s3 (From old (Making S))
+      pub made_b : (s3 : DiskState) → l.b + copy_len l.pages ≤ s1.size → IsSynced s2 → s2.seen ≡ seen_with_bytes l.a copy s1.seen → LeavesOnly s2 s3 (From s2 (IsWriting l.b copy)) → LeavesOnly old s3 (From old (Making S))
       made_b s3 room synced_2 seen_2 run_b = and_then old s2 s3 _ _ _ made_a run_b (λ c q. q) (λ c from.
           let back = at_end old s2 _ made_a from.0 from.1 in
           let here = told s2 IsHalf from.0 synced_2 from.1 (half s1 s2 room shut_1 seen_2) in

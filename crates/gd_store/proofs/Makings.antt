@@ -1,6 +1,6 @@
 -- What the calls of a making do.
 use Rattle.std.proofs.Common.{◌≡◌, inl, inr, ⊎_elim, ℕ, ◌*◌, ◌<◌, ◌^◌, List, [], ◌∷◌, length, Result, Ok, Err, sym, ap, subst, arith, true, false, IsTrue, Option}
-use Rattle.gd_disk.specs.Disk.{DiskState, IfTold, counts, IsCut, CountsCuts, Answers, written, seen_written}
+use Rattle.gd_disk.specs.Disk.{DiskState, IfTold, counts, IsCut, CountsCuts, Answers, with_bytes, seen_with_bytes}
 use Rattle.gd_disk.specs.Runs.{IsWithin, CanMeet, CutsLeft, CutsOfRun}
 use Rattle.gd_disk.specs.declared.disk.CutUnit.{CutUnit}
 use Rattle.gd_disk.specs.declared.disk.CutUnit.TheVariants.{Call, Sync}
@@ -38,14 +38,14 @@ write_run (Err e) old new call answer = record {
 pub read_run : {T E : Type 0} (x : T) (old new : DiskState) → new.armed ≡ old.armed → new.faults ≡ old.faults → CutsOfRun {E = E} 0 (Ok x) old new
 read_run x old new armed faults = record { left = subst (λ (cuts : List ArmedCut). CutsLeft 0 old.armed cuts) (sym armed) (no_call old.armed); no_fault = faults; cause = tt }
 
--- what a read gives after both copies are written
+-- what a read gives after both copies are with_bytes
 module _ (l : Layout) (n : ℕ) (p copy : List ℕ) (range : n < 2 ^ 64) (long : length p ≡ PAGE_LEN * l.pages) (is_copy : copy ≡ sealed l n p) (s1 s2 s3 : DiskState) (within : LiesWithin l s1.size) (size : s2.size ≡ s1.size) where
-  first : s2.seen ≡ seen_written l.a copy s1.seen → IfTold s2.seen (λ c. IsCopy l n p (copy_a l c))
+  first : s2.seen ≡ seen_with_bytes l.a copy s1.seen → IfTold s2.seen (λ c. IsCopy l n p (copy_a l c))
   first seen = subst (λ (s : Option (List ℕ)). IfTold s (λ c. IsCopy l n p (copy_a l c))) (sym seen) (told_written s1.seen l.a copy (λ c. Unit {0}) (λ c. IsCopy l n p (copy_a l c)) (λ d is none.
       let whole : length d ≡ s1.size = s1.whole d is in
-      subst (λ (x : List ℕ). IsCopy l n p (copy_a l (written l.a x d))) (sym is_copy) (written_a l n p range long within.apart d (omega (arith, whole, within.within))).0) (told_all s1.seen (λ c. Unit {0}) (λ c. tt)))
+      subst (λ (x : List ℕ). IsCopy l n p (copy_a l (with_bytes l.a x d))) (sym is_copy) (written_a l n p range long within.apart d (omega (arith, whole, within.within))).0) (told_all s1.seen (λ c. Unit {0}) (λ c. tt)))
 
-  pub made_both : s2.seen ≡ seen_written l.a copy s1.seen → s3.seen ≡ seen_written l.b copy s2.seen → IfTold s3.seen (HoldsBoth l n p)
+  pub made_both : s2.seen ≡ seen_with_bytes l.a copy s1.seen → s3.seen ≡ seen_with_bytes l.b copy s2.seen → IfTold s3.seen (HoldsBoth l n p)
   made_both seen_a seen_b = subst (λ (s : Option (List ℕ)). IfTold s (HoldsBoth l n p)) (sym seen_b) (told_written s2.seen l.b copy (λ c. IsCopy l n p (copy_a l c)) (HoldsBoth l n p) (λ d is here.
       let whole : length d ≡ s2.size = s2.whole d is in
-      subst (λ (x : List ℕ). HoldsBoth l n p (written l.b x d)) (sym is_copy) (let w = written_b l n p range long within.apart d (omega (arith, whole, size, within.within)) in (carries l n p _ _ w.0 here, w.1))) (first seen_a))
+      subst (λ (x : List ℕ). HoldsBoth l n p (with_bytes l.b x d)) (sym is_copy) (let w = written_b l n p range long within.apart d (omega (arith, whole, size, within.within)) in (carries l n p _ _ w.0 here, w.1))) (first seen_a))

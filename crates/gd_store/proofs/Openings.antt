@@ -1,6 +1,6 @@
 -- What each moment of an opening leaves.
 use Rattle.std.proofs.Common.{◌≡◌, ◌∙◌, sym, ap, subst, inr, ⊎_elim, false, arith, ◌+◌, ◌≤◌, length, true, List, ℕ, Option, Some, None}
-use Rattle.gd_disk.specs.Disk.{DiskState, Stands, IfTold, IsSynced, Rose}
+use Rattle.gd_disk.specs.Disk.{DiskState, Unchanged, IfTold, IsSynced, Rose}
 use Rattle.gd_disk.specs.Runs.{LeavesOnly, CutsLeft, CutOrFaultIn}
 use Rattle.gd_disk.proofs.Runs.{and_then, at_end, weaker}
 use Rattle.gd_disk.proofs.Cuts.{no_call, failed_then}
@@ -16,18 +16,18 @@ use Rattle.gd_store.specs.Writing.{From, KeepsBoot}
 use Rattle.gd_store.specs.declared.layout.Layout.{Layout}
 
 -- reads, and then what keeps the boot of each image
-pub kept_boot : (l : Layout) (old mid new : DiskState) → LeavesOnly old mid (From old Stands) → LeavesOnly mid new (KeepsBoot l mid) → LeavesOnly old new (KeepsBoot l old)
+pub kept_boot : (l : Layout) (old mid new : DiskState) → LeavesOnly old mid (From old Unchanged) → LeavesOnly mid new (KeepsBoot l mid) → LeavesOnly old new (KeepsBoot l old)
 kept_boot l old mid new first second =
     and_then old mid new _ _ _ first second (λ c from. (from.0, from.1, ap (boots l) from.2)) (λ c keeps.
     let back = at_end old mid _ first keeps.0 keeps.1 in
     (back.0, back.1, keeps.2 ∙ ap (boots l) back.2))
 
 -- reads alone
-pub reads_keep_boot : (l : Layout) (old new : DiskState) → LeavesOnly old new (From old Stands) → LeavesOnly old new (KeepsBoot l old)
+pub reads_keep_boot : (l : Layout) (old new : DiskState) → LeavesOnly old new (From old Unchanged) → LeavesOnly old new (KeepsBoot l old)
 reads_keep_boot l old new run = weaker old new _ _ run (λ c from. (from.0, from.1, ap (boots l) from.2))
 
 -- after reads of a disk that may be opened nothing waits for a sync
-pub still_synced : (old new : DiskState) → IsOpenable old → old.is_on ≡ true → LeavesOnly old new (From old Stands) → new.seen ≡ old.seen → IsSynced new
+pub still_synced : (old new : DiskState) → IsOpenable old → old.is_on ≡ true → LeavesOnly old new (From old Unchanged) → new.seen ≡ old.seen → IsSynced new
 still_synced old new openable on run seen c may =
     let back = at_end old new _ run c may in
     ⊎_elim (λ off. absurd (clash (sym on ∙ off))) (λ synced. seen ∙ synced back.0 back.1 ∙ ap Some (sym back.2)) openable

@@ -2,7 +2,7 @@
 use Rattle.std.specs.Prelude.{◌≡◌, ◌≢◌, ◌⊎◌, ℕ, ◌+◌, ◌<◌, ◌≤◌, List, [], ◌∷◌, length, slice_index, Result, OnOk, OnErr, Option, if◌then◌else◌, ◌==◌}
 use Rattle.gd_store.specs.Copy.{part, boots}
 use Rattle.gd_store.specs.declared.layout.Layout.{Layout}
-use Rattle.gd_disk.specs.Disk.{seen_written, DiskState, Torn}
+use Rattle.gd_disk.specs.Disk.{seen_with_bytes, DiskState, Torn}
 
 -- the gate at this place isn't open
 abbrev pub IsShut : ℕ → List ℕ → Type 0
@@ -14,7 +14,7 @@ AreShut l image = IsShut l.a image × IsShut l.b image
 
 -- what a read gives after a gate that held this byte is shut
 abbrev pub seen_shut : ℕ → ℕ → Option (List ℕ) → Option (List ℕ)
-seen_shut at gate seen = if gate == 0xA5 then seen_written at (0 ∷ []) seen else seen
+seen_shut at gate seen = if gate == 0xA5 then seen_with_bytes at (0 ∷ []) seen else seen
 
 -- while a gate is shut: all else stands, and the gate is shut or all stands
 pub record IsShutting (at : ℕ) (old new : List ℕ) : Type 0 where

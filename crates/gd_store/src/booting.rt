@@ -1,6 +1,6 @@
 // What a disk boots to, with the payload in a room.
 ghost use Rattle.std.specs.Prelude.{◌≡◌, true, OnOk, OnErr, Some, None};
-ghost use Rattle.gd_disk.specs.Disk.{IfTold, Stands, Answers, Rose};
+ghost use Rattle.gd_disk.specs.Disk.{IfTold, Unchanged, Answers, Rose};
 ghost use Rattle.gd_disk.specs.CutRuns.{RunOf};
 ghost use Rattle.gd_disk.specs.Runs.{LeavesOnly};
 ghost use Rattle.gd_store.specs.Copy.{stored_payload};
@@ -36,7 +36,7 @@ pub fn boot<D: Disk>(disk: &mut D, room: &mut Room) -> Booted
     ensures lost_states { LostFinds result }
     ensures latest { IsLatest result }
     ensures seen { OnOk (outcome result) ((D.state disk.new).seen ≡ (D.state disk.old).seen) }
-    ensures any_moment { LeavesOnly (D.state disk.old) (D.state disk.new) (From (D.state disk.old) Stands) }
+    ensures any_moment { LeavesOnly (D.state disk.old) (D.state disk.new) (From (D.state disk.old) Unchanged) }
     ensures answer { Answers (outcome result) (D.state disk.old) (D.state disk.new) }
     ensures syncs { (D.state disk.new).syncs ≡ (D.state disk.old).syncs }
     ensures armed { (D.state disk.new).armed ≡ (D.state disk.old).armed }

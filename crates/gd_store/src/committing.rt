@@ -1,6 +1,6 @@
 // The commit of a payload.
 ghost use Rattle.std.specs.Prelude.{◌≡◌, ◌⊎◌, ◌+◌, ◌*◌, ◌<◌, ◌^◌, length, OnOk, OnErr, IsErr, true, false, Some};
-ghost use Rattle.gd_disk.specs.Disk.{IfTold, IsSynced, Stands, Answers};
+ghost use Rattle.gd_disk.specs.Disk.{IfTold, IsSynced, Unchanged, Answers};
 ghost use Rattle.gd_disk.specs.CutRuns.{RunOf};
 ghost use Rattle.gd_disk.specs.Runs.{LeavesOnly, CutsOfRun};
 ghost use Rattle.gd_store.specs.Copy.{HoldsBoth, LiesWithin, boots, copy_len};
@@ -22,7 +22,7 @@ impl<D: Disk> Store<D> {
         requires sequence { store_sequence self.old < 2 ^ 36 }
         ensures committed { OnOk result ((store_sequence self.new ≡ store_sequence self.old + 1) × (store_payload self.new ≡ payload.now) × (store_stopped self.new ≡ false)) }
         ensures stays { OnErr result ((store_sequence self.new ≡ store_sequence self.old) × (store_payload self.new ≡ store_payload self.old) × (store_stopped self.new ≡ true)) }
-        ensures after_off { store_stopped self.old ≡ true → IsErr result × ((D.state (store_disk self.old)).is_on ≡ false) × LeavesOnly (D.state (store_disk self.old)) (D.state (store_disk self.new)) (From (D.state (store_disk self.old)) Stands) }
+        ensures after_off { store_stopped self.old ≡ true → IsErr result × ((D.state (store_disk self.old)).is_on ≡ false) × LeavesOnly (D.state (store_disk self.old)) (D.state (store_disk self.new)) (From (D.state (store_disk self.old)) Unchanged) }
         ensures any_moment { store_stopped self.old ≡ false → LeavesOnly (D.state (store_disk self.old)) (D.state (store_disk self.new))
             (λ image. (boots LAYOUT image ≡ Some (store_sequence self.old, store_payload self.old)) ⊎ (boots LAYOUT image ≡ Some (store_sequence self.old + 1, payload.now))) }
         ensures answer { Answers result (D.state (store_disk self.old)) (D.state (store_disk self.new)) }

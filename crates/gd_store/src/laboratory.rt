@@ -1,6 +1,6 @@
 // A store on a disk whose power a test cuts.
 ghost use Rattle.std.specs.Prelude.{◌≡◌, ◌≤◌, ◌<◌, ◌++◌, ◌∷◌, [], length};
-ghost use Rattle.gd_disk.specs.Disk.{Loses, Stands, KeepsCounts};
+ghost use Rattle.gd_disk.specs.Disk.{Loses, Unchanged, KeepsCounts};
 ghost use Rattle.gd_store.specs.Words.{store_disk, store_payload, store_sequence, store_stopped};
 
 use crate::Store;
@@ -16,7 +16,7 @@ impl<L: LabDisk> Store<L> {
         ensures armed { (L.state (store_disk self.new)).armed ≡ (L.state (store_disk self.old)).armed ++ record { unit = unit; count = count; torn = torn } ∷ [] }
         ensures power { (L.state (store_disk self.new)).is_on ≡ (L.state (store_disk self.old)).is_on }
         ensures seen { (L.state (store_disk self.new)).seen ≡ (L.state (store_disk self.old)).seen }
-        ensures loss { Loses Stands (L.state (store_disk self.old)) (L.state (store_disk self.new)) }
+        ensures loss { Loses Unchanged (L.state (store_disk self.old)) (L.state (store_disk self.new)) }
         ensures counts { KeepsCounts (L.state (store_disk self.old)) (L.state (store_disk self.new)) }
         ensures found { (L.state (store_disk self.new)).found ≡ (L.state (store_disk self.old)).found }
         ensures faults { (L.state (store_disk self.new)).faults ≡ (L.state (store_disk self.old)).faults }

@@ -1,6 +1,6 @@
 // The making of a memory.
 ghost use Rattle.std.specs.Prelude.{◌≡◌, ◌+◌, ◌*◌, ◌≤◌, length, slice_index, IfOk, OnOk};
-ghost use Rattle.gd_disk.specs.Disk.{IfTold, Stands, IsSynced, Answers};
+ghost use Rattle.gd_disk.specs.Disk.{IfTold, Unchanged, IsSynced, Answers};
 ghost use Rattle.gd_disk.specs.CutRuns.{RunOf};
 ghost use Rattle.gd_disk.specs.Runs.{LeavesOnly, CutsOfRun};
 ghost use Rattle.gd_store.specs.Copy.{HoldsBoth, LiesWithin, copy_len};
@@ -98,7 +98,7 @@ fn read_gate<D: Disk>(disk: &mut D, at: u64) -> Result<u8, Off>
     requires { at + 1 ≤ (D.state disk.old).size }
     ensures gate { IfOk result (λ gate. IfTold (D.state disk.old).seen (λ image. slice_index image at ≡ gate)) }
     ensures seen { OnOk result ((D.state disk.new).seen ≡ (D.state disk.old).seen) }
-    ensures any_moment { LeavesOnly (D.state disk.old) (D.state disk.new) (From (D.state disk.old) Stands) }
+    ensures any_moment { LeavesOnly (D.state disk.old) (D.state disk.new) (From (D.state disk.old) Unchanged) }
     ensures answer { Answers result (D.state disk.old) (D.state disk.new) }
     ensures syncs { (D.state disk.new).syncs ≡ (D.state disk.old).syncs }
     ensures cuts { CutsOfRun 0 result (D.state disk.old) (D.state disk.new) }

@@ -1,6 +1,6 @@
 // What a disk boots to.
 ghost use Rattle.std.specs.Prelude.{◌≡◌, OnErr, true, ◌≤◌, length, IfOk, OnOk, Some, None};
-ghost use Rattle.gd_disk.specs.Disk.{IfTold, Stands, Answers, Rose};
+ghost use Rattle.gd_disk.specs.Disk.{IfTold, Unchanged, Answers, Rose};
 ghost use Rattle.gd_disk.specs.CutRuns.{RunOf};
 ghost use Rattle.gd_disk.specs.Runs.{LeavesOnly};
 ghost use Rattle.gd_store.specs.Copy.{copy_len, header_start, state_of, lowest_bad, stored_sequence, copy_a, copy_b, chosen, LiesWithin, stored_payload};
@@ -126,7 +126,7 @@ pub(crate) fn read_copies<D: Disk>(
     ensures choice { IfOk result (λ r. spelled r.choice (stored_payload layout a.new) (stored_payload layout b.new)
         ≡ chosen r.a r.b (stored_payload layout a.new) (stored_payload layout b.new)) }
     ensures seen { OnOk result ((D.state disk.new).seen ≡ (D.state disk.old).seen) }
-    ensures any_moment { LeavesOnly (D.state disk.old) (D.state disk.new) (From (D.state disk.old) Stands) }
+    ensures any_moment { LeavesOnly (D.state disk.old) (D.state disk.new) (From (D.state disk.old) Unchanged) }
     ensures answer { Answers result (D.state disk.old) (D.state disk.new) }
     ensures syncs { (D.state disk.new).syncs ≡ (D.state disk.old).syncs }
     ensures armed { (D.state disk.new).armed ≡ (D.state disk.old).armed }

@@ -1,6 +1,6 @@
 // Writes to a disk, each kept by a sync of its own.
 ghost use Rattle.std.specs.Prelude.{◌≡◌, ◌≤◌, ◌+◌, ◌<◌, ◌^◌, ◌∷◌, length, OnOk, true, if◌then◌else◌, slice_index};
-ghost use Rattle.gd_disk.specs.Disk.{IfTold, seen_written, Torn, IsSynced, Answers};
+ghost use Rattle.gd_disk.specs.Disk.{IfTold, seen_with_bytes, Torn, IsSynced, Answers};
 ghost use Rattle.gd_disk.specs.CutRuns.{RunOf};
 ghost use Rattle.gd_disk.specs.Runs.{LeavesOnly, CutsOfRun};
 ghost use Rattle.gd_store.specs.Writing.{seen_shut, IsShutting, IsShut, IsOverOpen, IsWriting, From, MadeSyncs};
@@ -10,7 +10,7 @@ use gd_disk::{Disk, Off};
 // Writes, and keeps it by a sync.
 fn write_synced<D: Disk>(disk: &mut D, at: u64, bytes: &[u8]) -> Result<(), Off>
     requires { at + length bytes.now ≤ (D.state disk.old).size }
-    ensures seen { OnOk result ((D.state disk.new).seen ≡ seen_written at bytes.now (D.state disk.old).seen) }
+    ensures seen { OnOk result ((D.state disk.new).seen ≡ seen_with_bytes at bytes.now (D.state disk.old).seen) }
     ensures synced { OnOk result (IsSynced (D.state disk.new)) }
     ensures any_moment { LeavesOnly (D.state disk.old) (D.state disk.new) (From (D.state disk.old) (Torn at (length bytes.now))) }
     ensures answer { Answers result (D.state disk.old) (D.state disk.new) }
@@ -72,7 +72,7 @@ pub(crate) fn write_shut<D: Disk>(disk: &mut D, at: u64, body: &[u8]) -> Result<
     requires bounded { (D.state disk.old).size < 2 ^ 64 }
     requires synced { IsSynced (D.state disk.old) }
     requires shut { IfTold (D.state disk.old).seen (IsShut at) }
-    ensures seen { OnOk result ((D.state disk.new).seen ≡ seen_written at (OPEN ∷ body.now) (D.state disk.old).seen) }
+    ensures seen { OnOk result ((D.state disk.new).seen ≡ seen_with_bytes at (OPEN ∷ body.now) (D.state disk.old).seen) }
     ensures synced { OnOk result (IsSynced (D.state disk.new)) }
     ensures any_moment { LeavesOnly (D.state disk.old) (D.state disk.new) (From (D.state disk.old) (IsWriting at (OPEN ∷ body.now))) }
     ensures answer { Answers result (D.state disk.old) (D.state disk.new) }
@@ -90,7 +90,7 @@ pub(crate) fn write_copy<D: Disk>(disk: &mut D, at: u64, gate: u8, body: &[u8]) 
     requires bounded { (D.state disk.old).size < 2 ^ 64 }
     requires synced { IsSynced (D.state disk.old) }
     requires gate { IfTold (D.state disk.old).seen (λ image. slice_index image at ≡ gate) }
-    ensures seen { OnOk result ((D.state disk.new).seen ≡ seen_written at (OPEN ∷ body.now) (D.state disk.old).seen) }
+    ensures seen { OnOk result ((D.state disk.new).seen ≡ seen_with_bytes at (OPEN ∷ body.now) (D.state disk.old).seen) }
     ensures synced { OnOk result (IsSynced (D.state disk.new)) }
     ensures any_moment { LeavesOnly (D.state disk.old) (D.state disk.new) (From (D.state disk.old) (IsWriting at (OPEN ∷ body.now))) }
     ensures answer { Answers result (D.state disk.old) (D.state disk.new) }

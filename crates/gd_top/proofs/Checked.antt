@@ -9,8 +9,8 @@ use Rattle.gd_base.specs.declared.play.StageOpen.{StageOpen}
 use Rattle.gd_base.specs.declared.setup.Setup.{Setup}
 use Rattle.gd_base.specs.Histories.Credit.{wager}
 use Rattle.gd_base.specs.Histories.Rounds.{choices_of}
-use Rattle.gd_base.specs.Judging.SoFar.{is_whole_so_far, is_reels, is_plain}
-use Rattle.gd_base.specs.Payloads.ViewRules.{is_placed, view_rules, setup_rules, record_rules, is_possible, is_possible_under, is_play_record, is_open_record, is_played, is_in, is_choice_value, is_flagged_last, is_balanced, is_some_handpay, not_both, open_is}
+use Rattle.gd_base.specs.Judging.SoFar.{keeps_rules_so_far, is_reels, is_plain}
+use Rattle.gd_base.specs.Payloads.ViewRules.{is_placed, view_rules, setup_rules, record_rules, is_possible, is_possible_under, is_play_record, is_open_record, is_played, is_in, is_choice_value, is_flagged_last, is_balanced, is_some_handpay, not_both, is_open_as}
 use Rattle.gd_base.specs.Games.Stage.{is_choice, are_choices}
 use Rattle.gd_base.specs.Judging.Product.{both_hold}
 use Rattle.gd_base.specs.Histories.View.{View}
@@ -90,13 +90,13 @@ second_of a b h = ap (λ (x : Bool). x && b) (sym h)
 
 -- what is told of an open play, by the rules
 record Rules (setup : Setup) (v : View) : Type 0 where
-  record_ok : open_is is_play_record v.play ≡ true
-  place_ok : open_is (is_open_record v) v.play ≡ true
-  played_ok : open_is (is_played setup) v.play ≡ true
-  going_ok : open_is (λ p. not (is_in setup p StageOpen.Ended)) v.play ≡ true
-  plain_ok : open_is is_plain v.play ≡ true
+  record_ok : is_open_as is_play_record v.play ≡ true
+  place_ok : is_open_as (is_open_record v) v.play ≡ true
+  played_ok : is_open_as (is_played setup) v.play ≡ true
+  going_ok : is_open_as (λ p. not (is_in setup p StageOpen.Ended)) v.play ≡ true
+  plain_ok : is_open_as is_plain v.play ≡ true
 
-rules_of_play : (setup : Setup) (b : Books) (play : Option PlayRecord) → open_is (is_open_at setup b.count) play ≡ true → Rules setup (view_of b play)
+rules_of_play : (setup : Setup) (b : Books) (play : Option PlayRecord) → is_open_as (is_open_at setup b.count) play ≡ true → Rules setup (view_of b play)
 rules_of_play setup b None h = record { record_ok = refl; place_ok = refl; played_ok = refl; going_ok = refl; plain_ok = refl }
 rules_of_play setup b (Some p) h =
     let t = both (is_plain_record p && is_placed b.count p) (is_going_on setup p) h in
@@ -105,7 +105,7 @@ rules_of_play setup b (Some p) h =
     let going = both (is_played setup p) (not (is_in setup p StageOpen.Ended)) t.1 in
     record { record_ok = plain.1; place_ok = u.1; played_ok = going.0; going_ok = going.1; plain_ok = plain.0 }
 
-play_of_rules : (setup : Setup) (b : Books) (play : Option PlayRecord) → Rules setup (view_of b play) → open_is (is_open_at setup b.count) play ≡ true
+play_of_rules : (setup : Setup) (b : Books) (play : Option PlayRecord) → Rules setup (view_of b play) → is_open_as (is_open_at setup b.count) play ≡ true
 play_of_rules setup b None r = refl
 play_of_rules setup b (Some p) r =
     both_hold (is_plain_record p && is_placed b.count p) (is_going_on setup p)
@@ -114,15 +114,15 @@ play_of_rules setup b (Some p) r =
 
 abbrev tests : Setup → Books → Option PlayRecord → Bool
 tests setup b play =
-    are_counts b && is_balanced (view_of b play) && (is_one_of b.handpay play && open_is (is_open_at setup b.count) play)
+    are_counts b && is_balanced (view_of b play) && (is_one_of b.handpay play && is_open_as (is_open_at setup b.count) play)
 
 rules_of_tests : (setup : Setup) (b : Books) (play : Option PlayRecord) → length b.totals ≡ 16 → length b.kept ≡ 9 → tests setup b play ≡ true
-    → is_whole_so_far setup (view_of b play) ≡ true
+    → keeps_rules_so_far setup (view_of b play) ≡ true
 rules_of_tests setup b play sixteen nine h =
     let v = view_of b play in
-    let t = both (are_counts b && is_balanced v) (is_one_of b.handpay play && open_is (is_open_at setup b.count) play) h in
+    let t = both (are_counts b && is_balanced v) (is_one_of b.handpay play && is_open_as (is_open_at setup b.count) play) h in
     let sound = both (are_counts b) (is_balanced v) t.0 in
-    let open_ok = both (is_one_of b.handpay play) (open_is (is_open_at setup b.count) play) t.1 in
+    let open_ok = both (is_one_of b.handpay play) (is_open_as (is_open_at setup b.count) play) t.1 in
     let one = both (is_some_handpay b.handpay) (not_both (is_some b.handpay) (is_some play)) open_ok.0 in
     let counts = list_all (λ n. nat_le n b.count) (drop 9 b.totals) in
     let flagged = list_all is_flagged_last b.kept in
@@ -135,12 +135,12 @@ rules_of_tests setup b play sixteen nine h =
     let zero = is_within 0 b.count (omega arith) in
     let possible : is_possible v ≡ true = all_hold (view_rules v) (refl, (refl, (is_equal (length b.totals) 16 sixteen, (refl, (refl, (is_equal (length b.kept) 9 nine, (e.0, (both_hold adds flagged e.1 d.1, (sound.1, (c.1, (zero, (refl, (refl, (refl, (refl, (one.0, (one.1, (refl, (refl, (refl, (refl, (r.record_ok, (r.place_ok, tt))))))))))))))))))))))) in
     let under : is_possible_under setup v ≡ true = all_hold (setup_rules setup v) (refl, (refl, (r.played_ok, (refl, (r.going_ok, tt))))) in
-    both_hold (is_possible v && is_possible_under setup v) (open_is is_plain play) (both_hold (is_possible v) (is_possible_under setup v) possible under) r.plain_ok
+    both_hold (is_possible v && is_possible_under setup v) (is_open_as is_plain play) (both_hold (is_possible v) (is_possible_under setup v) possible under) r.plain_ok
 
-tests_of_rules : (setup : Setup) (b : Books) (play : Option PlayRecord) → is_whole_so_far setup (view_of b play) ≡ true → tests setup b play ≡ true
+tests_of_rules : (setup : Setup) (b : Books) (play : Option PlayRecord) → keeps_rules_so_far setup (view_of b play) ≡ true → tests setup b play ≡ true
 tests_of_rules setup b play h =
     let v = view_of b play in
-    let t = both (is_possible v && is_possible_under setup v) (open_is is_plain play) h in
+    let t = both (is_possible v && is_possible_under setup v) (is_open_as is_plain play) h in
     let u = both (is_possible v) (is_possible_under setup v) t.0 in
     let p = all_told (view_rules v) u.0 in
     let q = all_told (setup_rules setup v) u.1 in
@@ -155,17 +155,17 @@ tests_of_rules setup b play h =
     let r : Rules setup v = record { record_ok = p21.0; place_ok = p21.1.0; played_ok = q.1.1.0; going_ok = q.1.1.1.1.0; plain_ok = t.1 } in
     let sound = both_hold (are_counts b) (is_balanced v)
     (both_hold (few && adds && flagged) counts (both_hold (few && adds) flagged (both_hold few adds p.1.1.1.1.1.1.0 k.0) k.1) p7.1.1.0) p7.1.0 in
-    both_hold (are_counts b && is_balanced v) (is_one_of b.handpay play && open_is (is_open_at setup b.count) play) sound
-    (both_hold (is_one_of b.handpay play) (open_is (is_open_at setup b.count) play)
+    both_hold (are_counts b && is_balanced v) (is_one_of b.handpay play && is_open_as (is_open_at setup b.count) play) sound
+    (both_hold (is_one_of b.handpay play) (is_open_as (is_open_at setup b.count) play)
     (both_hold (is_some_handpay b.handpay) (not_both (is_some b.handpay) (is_some play)) p15.0 p15.1.0) (play_of_rules setup b play r))
 
 pub whole_is : (setup : Setup) (b : Books) (play : Option PlayRecord) → length b.totals ≡ 16 → length b.kept ≡ 9
-    → tests setup b play ≡ is_whole_so_far setup (view_of b play)
+    → tests setup b play ≡ keeps_rules_so_far setup (view_of b play)
 whole_is setup b play sixteen nine =
-    same_test (tests setup b play) (is_whole_so_far setup (view_of b play)) (rules_of_tests setup b play sixteen nine) (tests_of_rules setup b play)
+    same_test (tests setup b play) (keeps_rules_so_far setup (view_of b play)) (rules_of_tests setup b play sixteen nine) (tests_of_rules setup b play)
 
 -- a play that keeps the rules has a choice of its game
-pub choice_told : (setup : Setup) (handpay : Option Handpay) (count : ℕ) (play : Option PlayRecord) → is_one_of handpay play && open_is (is_open_at setup count) play ≡ true
+pub choice_told : (setup : Setup) (handpay : Option Handpay) (count : ℕ) (play : Option PlayRecord) → is_one_of handpay play && is_open_as (is_open_at setup count) play ≡ true
     → IfSome play (λ p. IsTrue (is_choice_value p.game p.choice))
 choice_told setup handpay count None h = tt
 choice_told setup handpay count (Some p) h =
@@ -178,14 +178,14 @@ choice_told setup handpay count (Some p) h =
 pub not_first : (a b : Bool) → a ≡ false → a ≡ a && b
 not_first a b h = h ∙ ap (λ (x : Bool). x && b) (sym h)
 
-in_order : (setup : Setup) (count : ℕ) (play : Option PlayRecord) → open_is (is_open_at setup count) play ≡ true → open_is (is_in_order setup) play ≡ true
+in_order : (setup : Setup) (count : ℕ) (play : Option PlayRecord) → is_open_as (is_open_at setup count) play ≡ true → is_open_as (is_in_order setup) play ≡ true
 in_order setup count None h = refl
 in_order setup count (Some p) h =
     let t = both (is_plain_record p && is_placed count p) (is_going_on setup p) h in
     both_hold (is_plain_record p) (is_going_on setup p) (both (is_plain_record p) (is_placed count p) t.0).0 t.1
 
 -- the open play of a view that keeps the rules
-pub order_told : (setup : Setup) (b : Books) (play : Option PlayRecord) → is_whole_so_far setup (view_of b play) ≡ true → open_is (is_in_order setup) play ≡ true
+pub order_told : (setup : Setup) (b : Books) (play : Option PlayRecord) → keeps_rules_so_far setup (view_of b play) ≡ true → is_open_as (is_in_order setup) play ≡ true
 order_told setup b play h =
-    let t = both (are_counts b && is_balanced (view_of b play)) (is_one_of b.handpay play && open_is (is_open_at setup b.count) play) (tests_of_rules setup b play h) in
-    in_order setup b.count play (both (is_one_of b.handpay play) (open_is (is_open_at setup b.count) play) t.1).1
+    let t = both (are_counts b && is_balanced (view_of b play)) (is_one_of b.handpay play && is_open_as (is_open_at setup b.count) play) (tests_of_rules setup b play h) in
+    in_order setup b.count play (both (is_one_of b.handpay play) (is_open_as (is_open_at setup b.count) play) t.1).1

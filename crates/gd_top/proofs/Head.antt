@@ -11,7 +11,7 @@ use Rattle.std.proofs.lemmas.Slice.{drop-append-drop}
 use Rattle.gd_base.specs.declared.refusal.Reply.{Reply}
 use Rattle.gd_base.specs.declared.layout.TheConstants.{HEAD_LEN, COUNT_AT, BALANCE_AT, TOTALS_AT, HANDPAY_AT, KEPT_AT, KEPT_LEN}
 use Rattle.gd_base.specs.declared.payout.Handpay.{Handpay}
-use Rattle.gd_base.specs.Payloads.Bytes.{eight, kept_bytes, handpay_bytes, head_bytes, filled}
+use Rattle.gd_base.specs.Payloads.Bytes.{eight, kept_bytes, handpay_bytes, head_bytes, filled_part}
 use Rattle.gd_base.specs.Judging.SoFar.{view_so_far}
 use Rattle.gd_top.specs.Books.{put_at}
 
@@ -62,7 +62,7 @@ kept_long k = refl
 pub head_written : (count balance : ℕ) (totals : List ℕ) (handpay : Option Handpay) (kept : List (ℕ × Option Reply)) → length totals ≡ 16 → length kept ≡ 9
     → put_at KEPT_AT (flat_map kept_bytes kept) (put_at HANDPAY_AT (handpay_bytes handpay) (put_at TOTALS_AT (flat_map eight totals)
     (put_at BALANCE_AT (eight balance) (put_at COUNT_AT (eight count) (replicate HEAD_LEN 0)))))
-    ≡ filled HEAD_LEN (head_bytes (view_so_far count balance totals None handpay kept))
+    ≡ filled_part HEAD_LEN (head_bytes (view_so_far count balance totals None handpay kept))
 head_written count balance (t0 ∷ t1 ∷ t2 ∷ t3 ∷ t4 ∷ t5 ∷ t6 ∷ t7 ∷ t8 ∷ t9 ∷ ta ∷ tb ∷ tc ∷ td ∷ te ∷ tf ∷ []) None (a ∷ b ∷ c ∷ d ∷ e ∷ f ∷ g ∷ h ∷ i ∷ []) l m = refl
 head_written count balance (t0 ∷ t1 ∷ t2 ∷ t3 ∷ t4 ∷ t5 ∷ t6 ∷ t7 ∷ t8 ∷ t9 ∷ ta ∷ tb ∷ tc ∷ td ∷ te ∷ tf ∷ []) (Some p) (a ∷ b ∷ c ∷ d ∷ e ∷ f ∷ g ∷ h ∷ i ∷ []) l m = refl
 head_written count balance totals handpay (a ∷ b ∷ c ∷ d ∷ e ∷ f ∷ g ∷ h ∷ i ∷ []) l m = absurd (omega (arith, l))

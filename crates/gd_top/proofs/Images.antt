@@ -7,7 +7,7 @@ use Rattle.gd_base.specs.Payloads.Spelled.{Shows}
 use Rattle.gd_cabinet.specs.Opening.{IsOpening, start_of, started}
 use Rattle.gd_cabinet.specs.Shown.{shows, IsInBoth, ShowsEither}
 use Rattle.gd_cabinet.proofs.Showing.{settled_shows}
-use Rattle.gd_disk.specs.Disk.{DiskState, IfTold, IsSynced, Loses, Stands}
+use Rattle.gd_disk.specs.Disk.{DiskState, IfTold, IsSynced, Loses, Unchanged}
 use Rattle.gd_disk.specs.Runs.{LeavesOnly}
 use Rattle.gd_store.specs.Copy.{chosen, copy_a, copy_b, state_of, stored_payload}
 use Rattle.gd_store.specs.declared.copy.CopyState.{CopyState}
@@ -41,7 +41,7 @@ one_image c d seen is also = cc (is, also)
 pub settled : (disk : DiskState) → IsSynced disk → IsSettled disk
 settled disk synced c d may also = one_image c d disk.seen (synced c may) (synced d also)
 
-pub settled_after : (old new : DiskState) → IsSettled old → Loses Stands old new → IsSettled new
+pub settled_after : (old new : DiskState) → IsSettled old → Loses Unchanged old new → IsSettled new
 settled_after old new h loss c d may also =
     let a = loss.now c may in
     let b = loss.now d also in
@@ -65,12 +65,12 @@ module _ {V : Type 0} (M : Machine V) (B : Blocks) where
   both_near v disk both image may = (start_of M v, inl (holds_shows M v image (both image may)))
 
   -- nothing was written
-  pub still_both : (v : V) (old new : DiskState) → ((image : List ℕ) → old.may_find image → IsInBoth M v image) → Loses Stands old new → (image : List ℕ) → new.may_find image → IsInBoth M v image
+  pub still_both : (v : V) (old new : DiskState) → ((image : List ℕ) → old.may_find image → IsInBoth M v image) → Loses Unchanged old new → (image : List ℕ) → new.may_find image → IsInBoth M v image
   still_both v old new both loss image may =
       let was = loss.now image may in
       subst (IsInBoth M v) (sym was.2) (both was.0 was.1)
 
-  pub near_after : (v : V) (old new : DiskState) → ((image : List ℕ) → old.may_find image → IsInBoth M v image) → Loses Stands old new → ShowsNear M B v new
+  pub near_after : (v : V) (old new : DiskState) → ((image : List ℕ) → old.may_find image → IsInBoth M v image) → Loses Unchanged old new → ShowsNear M B v new
   near_after v old new both loss = both_near v new (still_both v old new both loss)
 
   -- what may be found after an opening of one image in which the disk failed

@@ -3,7 +3,7 @@ use Rattle.std.proofs.Common.{◌≡◌, ◌∙◌, ap, sym, subst, ℕ, List, O
 use Rattle.gd_base.specs.Judging.Machine.{Machine}
 use Rattle.gd_base.specs.Payloads.Spelled.{Shows}
 use Rattle.gd_cabinet.specs.Shown.{IsInBoth}
-use Rattle.gd_disk.specs.Disk.{DiskState, IfTold, IsSynced, Loses, Stands}
+use Rattle.gd_disk.specs.Disk.{DiskState, IfTold, IsSynced, Loses, Unchanged}
 use Rattle.gd_store.specs.Copy.{HoldsBoth}
 use Rattle.gd_store.specs.declared.layout.TheConstants.{LAYOUT}
 use Rattle.gd_top.proofs.Images.{told_at}
@@ -17,7 +17,7 @@ module _ {V : Type 0} (M : Machine V) where
     both = subst (λ (n : ℕ). HoldsBoth LAYOUT n payload image) (sym (ap M.count empty ∙ M.count_empty)) (told_at seen image (HoldsBoth LAYOUT 0 payload) is told);
   }
 
-  pub made_both : (payload : List ℕ) (v : V) (made off : DiskState) → IsSynced made → IfTold made.seen (HoldsBoth LAYOUT 0 payload) → M.spelled payload ≡ Shows v → v ≡ M.empty → Loses Stands made off
+  pub made_both : (payload : List ℕ) (v : V) (made off : DiskState) → IsSynced made → IfTold made.seen (HoldsBoth LAYOUT 0 payload) → M.spelled payload ≡ Shows v → v ≡ M.empty → Loses Unchanged made off
       → (image : List ℕ) → off.may_find image → IsInBoth M v image
   made_both payload v made off synced told spelled empty loss image may =
       let was = loss.now image may in

@@ -4,7 +4,7 @@ use Rattle.std.specs.List.{flat_map}
 use Rattle.std.proofs.lemmas.List.{drop-replicate, replicate-append-replicate}
 use Rattle.gd_base.specs.declared.layout.TheConstants.{HEAD_LEN, OPEN_PLAY_LEN, PLAYS_LEN, EVENTS_LEN, BILLS_LEN, VOUCHERS_LEN, REST_LEN, PAYLOAD_LEN, PLAY_LEN}
 use Rattle.gd_base.specs.declared.play.PlayRecord.{PlayRecord}
-use Rattle.gd_base.specs.Payloads.Bytes.{four, eight, choice_code, play_bytes, filled}
+use Rattle.gd_base.specs.Payloads.Bytes.{four, eight, choice_code, play_bytes, filled_part}
 use Rattle.gd_base.specs.Histories.Numbers.{game_number}
 use Rattle.gd_top.specs.Books.{put_at}
 use Rattle.gd_top.proofs.Head.{put_behind, row_length, eight_long}
@@ -57,14 +57,14 @@ room_left : (n more few : ℕ) → few ≤ n → n + more - few ≡ n - few + mo
 room_left n more few le = omega (arith, le)
 
 -- a front over zeros
-over_zeros : (n more : ℕ) (front : List ℕ) → length front ≤ n → put_at 0 front (replicate (n + more) 0) ≡ filled n front ++ replicate more 0
+over_zeros : (n more : ℕ) (front : List ℕ) → length front ≤ n → put_at 0 front (replicate (n + more) 0) ≡ filled_part n front ++ replicate more 0
 over_zeros n more front few =
     let behind : drop (0 + length front) (replicate (n + more) 0) ≡ replicate (n - length front) 0 ++ replicate more 0 =
     ap (λ (k : ℕ). drop k (replicate (n + more) 0)) (none_less (length front)) ∙ drop-replicate (length front) (n + more) 0 ∙ ap (λ (k : ℕ). replicate k 0) (room_left n more (length front) few)
     ∙ sym (replicate-append-replicate (n - length front) more 0) in
     ap (λ (x : List ℕ). front ++ x) behind ∙ sym (append_assoc front (replicate (n - length front) 0) (replicate more 0))
 
-zeros_behind : replicate {A = ℕ} (PAYLOAD_LEN - HEAD_LEN - OPEN_PLAY_LEN) 0 ≡ filled PLAYS_LEN [] ++ (filled EVENTS_LEN [] ++ (filled BILLS_LEN [] ++ filled (VOUCHERS_LEN + REST_LEN) []))
+zeros_behind : replicate {A = ℕ} (PAYLOAD_LEN - HEAD_LEN - OPEN_PLAY_LEN) 0 ≡ filled_part PLAYS_LEN [] ++ (filled_part EVENTS_LEN [] ++ (filled_part BILLS_LEN [] ++ filled_part (VOUCHERS_LEN + REST_LEN) []))
 zeros_behind = refl
 
 regroup : (h a b c d e : List ℕ) → h ++ (a ++ (b ++ (c ++ (d ++ e)))) ≡ h ++ a ++ b ++ c ++ d ++ e
@@ -73,7 +73,7 @@ regroup h a b c d e = simp append_assoc
 -- a head, and behind it an open play over zeros
 pub rest_written : (head front : List ℕ) → length front ≤ OPEN_PLAY_LEN
     → head ++ put_at 0 front (replicate (PAYLOAD_LEN - HEAD_LEN) 0)
-    ≡ head ++ filled OPEN_PLAY_LEN front ++ filled PLAYS_LEN [] ++ filled EVENTS_LEN [] ++ filled BILLS_LEN [] ++ filled (VOUCHERS_LEN + REST_LEN) []
+    ≡ head ++ filled_part OPEN_PLAY_LEN front ++ filled_part PLAYS_LEN [] ++ filled_part EVENTS_LEN [] ++ filled_part BILLS_LEN [] ++ filled_part (VOUCHERS_LEN + REST_LEN) []
 rest_written head front few =
-    ap (λ (x : List ℕ). head ++ x) (over_zeros OPEN_PLAY_LEN (PAYLOAD_LEN - HEAD_LEN - OPEN_PLAY_LEN) front few ∙ ap (λ (x : List ℕ). filled OPEN_PLAY_LEN front ++ x) zeros_behind)
-    ∙ regroup head (filled OPEN_PLAY_LEN front) (filled PLAYS_LEN []) (filled EVENTS_LEN []) (filled BILLS_LEN []) (filled (VOUCHERS_LEN + REST_LEN) [])
+    ap (λ (x : List ℕ). head ++ x) (over_zeros OPEN_PLAY_LEN (PAYLOAD_LEN - HEAD_LEN - OPEN_PLAY_LEN) front few ∙ ap (λ (x : List ℕ). filled_part OPEN_PLAY_LEN front ++ x) zeros_behind)
+    ∙ regroup head (filled_part OPEN_PLAY_LEN front) (filled_part PLAYS_LEN []) (filled_part EVENTS_LEN []) (filled_part BILLS_LEN []) (filled_part (VOUCHERS_LEN + REST_LEN) [])

@@ -10,7 +10,7 @@ use Rattle.gd_base.specs.Histories.Rounds.{choices_of}
 use Rattle.gd_base.specs.Judging.SoFar.{is_plain, is_reels}
 use Rattle.gd_base.specs.Payloads.ViewRules.{record_rules, is_play_record, is_played, is_choice_value}
 use Rattle.gd_base.specs.Games.Stage.{stage, is_bet, are_choices}
-use Rattle.gd_base.specs.Texts.OfViews.{event_line, bill_line, voucher_line, events_text, spaced, play_head, pick_line, game_lines, turn_lines, stage_line, open_lines}
+use Rattle.gd_base.specs.Texts.OfViews.{event_line, bill_line, voucher_line, events_text, spaced_texts, play_head, pick_line, game_lines, turn_lines, stage_line, open_lines}
 use Rattle.gd_base.specs.Histories.View.{View}
 use Rattle.gd_base.proofs.BoolTests.{all_told, both, is_so}
 use Rattle.gd_top.specs.Checks.{is_plain_record, is_going_on, is_in_order}
@@ -46,10 +46,10 @@ regroup : (a b c d e f : List ℕ) → a ++ (b ++ c ++ d) ++ e ++ f ≡ a ++ (b 
 regroup a b c d e f = simp (append_assoc, append-nil)
 
 pub open_lines_are : (setup : Setup) (p : PlayRecord) → p.game ≡ Game.Reels → p.turns ≡ 0
-    → play_head p ++ (codes "window" ++ spaced (window setup p.words) ++ codes "\n") ++ pick_line setup p p.choice ++ stage_line (stage setup p.game p.bet p.words (choices_of p))
+    → play_head p ++ (codes "window" ++ spaced_texts (window setup p.words) ++ codes "\n") ++ pick_line setup p p.choice ++ stage_line (stage setup p.game p.bet p.words (choices_of p))
     ≡ open_lines setup p
 open_lines_are setup p game turns =
-    regroup (play_head p) (codes "window") (spaced (window setup p.words)) (codes "\n") (pick_line setup p p.choice) (stage_line (stage setup p.game p.bet p.words (choices_of p)))
+    regroup (play_head p) (codes "window") (spaced_texts (window setup p.words)) (codes "\n") (pick_line setup p p.choice) (stage_line (stage setup p.game p.bet p.words (choices_of p)))
     ∙ (λ j. play_head p ++ game_lines setup p (sym game j) ++ turn_lines setup p (sym turns j) ++ stage_line (stage setup p.game p.bet p.words (choices_of p)))
 
 together : (old a b c d : List ℕ) → old ++ a ++ b ++ c ++ d ≡ old ++ (a ++ b ++ c ++ d)

@@ -14,11 +14,11 @@ use Rattle.gd_base.specs.Judging.Answer.{IsDraw}
 use Rattle.gd_base.specs.Histories.Credit.{wager}
 use Rattle.gd_base.specs.Histories.Meters.{with_one}
 use Rattle.gd_base.specs.Histories.Recall.{play_record}
-use Rattle.gd_base.specs.Histories.Rounds.{Round, round_of, round_stage, choices_of, chosen, is_over, is_take}
+use Rattle.gd_base.specs.Histories.Rounds.{Round, round_of, round_stage, choices_of, with_choice, is_over, is_take}
 use Rattle.gd_base.specs.Judging.Rule.{rule, refusals, reply_by, locked_up, unless, is_at}
 use Rattle.gd_base.specs.Judging.SoFar.{is_reels}
 use Rattle.gd_base.specs.Payloads.ViewRules.{record_rules}
-use Rattle.gd_base.specs.Games.Stage.{stage, is_bet, is_phase, are_choices}
+use Rattle.gd_base.specs.Games.Stage.{stage, is_bet, is_stage, are_choices}
 use Rattle.gd_base.specs.Histories.View.{View}
 use Rattle.std.proofs.lemmas.Bool.Decides.{nat_tests}
 use Rattle.gd_base.proofs.BooksLemmas.LegalBooks.{AreNone, told, not_refused}
@@ -145,7 +145,7 @@ abbrev moved_books : Setup → Books → ℕ × ℕ → Round → Bool → View
 moved_books setup b start r is_ended = view_moved setup b.count b.balance b.totals start r is_ended b.handpay b.kept
 
 -- by the stage that it has then
-pub settled_view : (setup : Setup) (phase : StageOpen) (is_ended : Bool) (b : Books) (p : PlayRecord) (start : ℕ × ℕ) (r : Round) → is_phase phase StageOpen.Ended ≡ is_ended → p ≡ play_record setup start 0 r
+pub settled_view : (setup : Setup) (phase : StageOpen) (is_ended : Bool) (b : Books) (p : PlayRecord) (start : ℕ × ℕ) (r : Round) → is_stage phase StageOpen.Ended ≡ is_ended → p ≡ play_record setup start 0 r
     → view_of (settled setup phase (Some p) b) (left_at phase (Some p)) ≡ moved_books setup b start r is_ended
 settled_view setup StageOpen.Ended is_ended b p start r is same =
     ap (λ (q : PlayRecord). view_of (settled setup StageOpen.Ended (Some q) b) None) same ∙ ap (moved_books setup b start r) is
@@ -169,9 +169,9 @@ kept_record setup count p c k =
     λ x. record (replayed setup p r) { wager = paid x; after = after x }
 
 -- whether the play is over, by the stage that it leaves
-ended_by_stage : (setup : Setup) (event : Event) (r : Round) (over : Bool) → is_over setup event r ≡ over → is_phase (if over then StageOpen.Ended else (round_stage setup r).phase) StageOpen.Ended ≡ over
+ended_by_stage : (setup : Setup) (event : Event) (r : Round) (over : Bool) → is_over setup event r ≡ over → is_stage (if over then StageOpen.Ended else (round_stage setup r).phase) StageOpen.Ended ≡ over
 ended_by_stage setup event r true is = refl
-ended_by_stage setup event r false is = neither (is_take event) (is_phase (round_stage setup r).phase StageOpen.Ended) is
+ended_by_stage setup event r false is = neither (is_take event) (is_stage (round_stage setup r).phase StageOpen.Ended) is
   where
     neither : (a b : Bool) → a || b ≡ false → b ≡ false
     neither true b h = absurd (cc h)
@@ -183,7 +183,7 @@ picked_view : (setup : Setup) (b : Books) (p : PlayRecord) (door : ℕ) (draw : 
     view_of (settled setup phase play b) (left_at phase play) ≡ acted setup (view_of b (Some p)) event draw Reply.Taken)
 picked_view setup b p door draw k =
     let event = Event.Pick door in
-    let r = chosen door (round_of p) in
+    let r = with_choice door (round_of p) in
     let over = is_over setup event r in
     let is = effect_pick setup b.count b.balance b.totals p b.handpay b.kept 0 door draw k.sums.sixteen in
     settled_view setup (phase_after setup event (Some p)) over b (replayed setup p r) (p.number, p.before) r (ended_by_stage setup event r over refl) (kept_record setup b.count p r.choices k.open_play)

@@ -17,10 +17,10 @@ use Rattle.gd_base.specs.Judging.Legal.{IsNext, IsLegal, draw_of, next_entry, vi
 use Rattle.gd_base.specs.Judging.Machine.{Blocks}
 use Rattle.gd_base.specs.Histories.Meters.{with_one}
 use Rattle.gd_base.specs.Histories.Recall.{play_record}
-use Rattle.gd_base.specs.Histories.Rounds.{Round, round_of, round_stage, choices_of, new_round, chosen, is_over}
+use Rattle.gd_base.specs.Histories.Rounds.{Round, round_of, round_stage, choices_of, new_round, with_choice, is_over}
 use Rattle.gd_base.specs.Judging.Rule.{rule, refusals, unless, is_at, is_bill}
 use Rattle.gd_base.specs.Payloads.Bytes.{payload_of}
-use Rattle.gd_base.specs.Judging.SoFar.{machine_so_far, rule_so_far, is_drawn_so_far, is_whole_so_far, view_so_far, spelled_so_far}
+use Rattle.gd_base.specs.Judging.SoFar.{machine_so_far, rule_so_far, is_drawn_so_far, keeps_rules_so_far, view_so_far, spelled_so_far}
 use Rattle.gd_base.specs.Histories.Devices.{with_reply}
 use Rattle.gd_base.specs.Payloads.Spelled.{Shows}
 use Rattle.gd_base.specs.Games.Stage.{stage, is_bet, are_choices}
@@ -43,7 +43,7 @@ after_entry setup v number event draw reply = (machine_so_far setup).effect v (r
 
 -- the view keeps the rules, and has nothing of what isn't built
 pub record IsWhole (setup : Setup) (v : View) : Type 0 where
-  pub keeps : is_whole_so_far setup v ≡ true
+  pub keeps : keeps_rules_so_far setup v ≡ true
   pub form : v ≡ view_so_far v.count v.balance v.totals v.play v.handpay v.kept
 
 whole_by : (setup : Setup) (count balance : ℕ) (totals : List ℕ) (play : Option PlayRecord) (handpay : Option Handpay) (kept : List (ℕ × Option Reply)) → IsCounted setup count balance totals play handpay kept
@@ -138,7 +138,7 @@ pick_whole setup b (Some p) door number draw k room taken =
     let held = not_held v r.0 in
     let asks = unless_true (is_at setup StageOpen.Pick (Some p) && (nat_le 1 door && nat_le door 5)) Refusal.BadChoice r.1.1.0 in
     let good = (both (is_at setup StageOpen.Pick (Some p)) (nat_le 1 door && nat_le door 5) asks).1 in
-    let round = chosen door (round_of p) in
+    let round = with_choice door (round_of p) in
     let win = p.win == (stage setup p.game p.bet p.words (choices_of p)).win in
     let are = are_choices setup p.game p.bet p.words (choices_of p) in
     let legal = (both (p.wager == wager setup p.bet) are (both ((p.wager == wager setup p.bet) && are) win k.open_play.played).0).1 in
@@ -198,7 +198,7 @@ entry_whole setup b play number _ draw Reply.Taken k room is drawn words = absur
 
 pub whole_after : (setup : Setup) (b : Books) (play : Option PlayRecord) (number : ℕ) (event : Event) (draw : Option (ℕ × List ℕ)) (reply : Reply) → IsKept setup b play → b.count < 2 ^ 36
     → reply ≡ rule_so_far setup (view_of b play) event → IsDraw (is_drawn_so_far setup (view_of b play) event) (next_index (view_of b play)) draw → AreWords draw
-    → is_whole_so_far setup (after_entry setup (view_of b play) number event draw reply) ≡ true
+    → keeps_rules_so_far setup (after_entry setup (view_of b play) number event draw reply) ≡ true
 whole_after setup b play number event draw reply k room is drawn words = (entry_whole setup b play number event draw reply k room is drawn words).keeps
 
 -- ================ a legal history
@@ -223,7 +223,7 @@ next_whole setup blocks lap v e are whole next =
     let w = view_of b v.play in
     let event = e.event in
     let draw = draw_of M blocks lap w event in
-    let now : is_whole_so_far setup w ≡ true = sym (ap (is_whole_so_far setup) whole.form) ∙ whole.keeps in
+    let now : keeps_rules_so_far setup w ≡ true = sym (ap (keeps_rules_so_far setup) whole.form) ∙ whole.keeps in
     let k = counted setup v.count v.balance v.totals v.play v.handpay v.kept now in
     by_path setup _ _ ((λ x. M.effect v (next.made x)) ∙ (λ x. M.effect (whole.form x) (next_entry M blocks lap (whole.form x) event)))
     (entry_whole setup b v.play (M.last w (device_of event) + 1) event draw (rule_so_far setup w event) k next.room refl
@@ -242,7 +242,7 @@ history_whole setup blocks lap (e ∷ past) are legal =
 spelled : (setup : Setup) (v : View) → IsWhole setup v → IsSpelled setup v
 spelled setup v whole =
     let w = view_so_far v.count v.balance v.totals v.play v.handpay v.kept in
-    let now : is_whole_so_far setup w ≡ true = sym (ap (is_whole_so_far setup) whole.form) ∙ whole.keeps in
+    let now : keeps_rules_so_far setup w ≡ true = sym (ap (keeps_rules_so_far setup) whole.form) ∙ whole.keeps in
     let back = spelled_back setup v.count v.balance v.totals v.play v.handpay v.kept now in
     (whole.keeps, (λ x. spelled_so_far setup (payload_of (whole.form x))) ∙ back ∙ (λ x. Shows (sym whole.form x)))
 

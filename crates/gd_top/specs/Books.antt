@@ -13,7 +13,7 @@ use Rattle.gd_base.specs.Histories.Credit.{credited_win, wager}
 use Rattle.gd_base.specs.Histories.History.{or_else}
 use Rattle.gd_base.specs.Histories.Numbers.{meter_place}
 use Rattle.gd_base.specs.Histories.Meters.{with_one, with_additions, win_additions, handpay_of_win}
-use Rattle.gd_base.specs.Judging.SoFar.{view_so_far, without_recall, is_reels, is_whole_so_far}
+use Rattle.gd_base.specs.Judging.SoFar.{view_so_far, without_recall, is_reels, keeps_rules_so_far}
 use Rattle.gd_base.specs.Histories.Devices.{with_reply}
 use Rattle.gd_base.specs.Payloads.Spelled.{Spelled, Shows, Unreadable}
 use Rattle.gd_base.specs.Games.Stage.{is_bet}
@@ -122,4 +122,4 @@ pub record HasRoom (b : Books) : Type 0 where
 pub record AreFit (setup : Setup) (b : Books) (t : ReelsTable) (play : Option PlayRecord) (at : StageOpen) : Type 0 where
   pub table : t.setup ≡ setup
   pub phase : at ≡ phase_of setup play
-  pub whole : IsTrue (is_whole_so_far setup (view_of b play))
+  pub whole : IsTrue (keeps_rules_so_far setup (view_of b play))

@@ -6,13 +6,13 @@ use Rattle.gd_base.specs.Histories.Entry.{Entry}
 use Rattle.gd_base.specs.Judging.Legal.{IsLegal, view_over}
 use Rattle.gd_base.specs.Judging.Machine.{Blocks}
 use Rattle.gd_base.specs.Payloads.Bytes.{payload_of}
-use Rattle.gd_base.specs.Judging.SoFar.{machine_so_far, is_whole_so_far, spelled_so_far}
+use Rattle.gd_base.specs.Judging.SoFar.{machine_so_far, keeps_rules_so_far, spelled_so_far}
 use Rattle.gd_base.specs.Payloads.Spelled.{Shows}
 use Rattle.gd_base.specs.Histories.View.{View}
 
 -- a view that keeps all rules of a view, and that its payload spells
 abbrev pub IsSpelled : Setup → View → Type 0
-IsSpelled setup v = IsTrue (is_whole_so_far setup v) × (spelled_so_far setup (payload_of v) ≡ Shows v)
+IsSpelled setup v = IsTrue (keeps_rules_so_far setup v) × (spelled_so_far setup (payload_of v) ≡ Shows v)
 
 -- The view of each legal history from nothing keeps all rules of a view: no money is lost or made, no number is too wide
 -- for its place, and the open play is one that its words and choices allow. Its payload spells it.

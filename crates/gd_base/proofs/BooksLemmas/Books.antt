@@ -8,15 +8,15 @@ use Rattle.gd_base.specs.declared.condition.Door.{Door}
 use Rattle.gd_base.specs.declared.event.Event.{Event}
 use Rattle.gd_base.specs.declared.meter.Meter.{Meter}
 use Rattle.gd_base.specs.declared.refusal.Reply.{Reply}
-use Rattle.gd_base.specs.Histories.Rounds.{posted}
+use Rattle.gd_base.specs.Histories.Rounds.{posted_win}
 use Rattle.gd_base.specs.declared.payout.Handpay.{Handpay}
 use Rattle.gd_base.specs.declared.payout.Order.{Order}
 use Rattle.gd_base.specs.declared.setup.Setup.{Setup}
 use Rattle.gd_base.specs.Laws.Books.{Balances}
-use Rattle.gd_base.specs.Histories.Credit.{Payment, ByHopper, ByPrinter, ByHand, payment, amount_of, order_by, less_coin, ordered_by, balance, ordered, orders, open_order, credit_by, debit_by, open_order_by, wager}
+use Rattle.gd_base.specs.Histories.Credit.{Payment, ByHopper, ByPrinter, ByHand, payment, amount_of, order_by, less_coin, order_amount, balance, ordered_amount, orders, open_order, credit_by, debit_by, open_order_by, wager}
 use Rattle.gd_base.specs.Histories.Entry.{Entry}
 use Rattle.gd_base.specs.Histories.History.{Origin, or_else}
-use Rattle.gd_base.specs.Histories.Meters.{share, event_additions, additions, win_additions, handpay_of_payment, handpay_addition, held_by, held, open_handpay}
+use Rattle.gd_base.specs.Histories.Meters.{share, event_additions, additions, win_additions, handpay_of_payment, handpay_addition, handpay_amount, held_amount, open_handpay}
 
 -- ================ what a win adds
 
@@ -30,23 +30,23 @@ won_if false win none = add-zero (0 + win) ∙ zero-add win
 won : (win : ℕ) → sum_by (share Meter.Won) (win_additions win) ≡ win
 won win = won_if (win == 0) win (is_zero win)
 
--- a posted win goes to the balance, or is held where nothing else is
-win_kept : (win : ℕ) (is_small : Bool) (h : Option Handpay) → (is_small ≡ false → held_by h ≡ 0)
-    → cond is_small win 0 + held_by (or_else (cond is_small None (Some (Some (record { win = true; amount = win })))) h) ≡ win + held_by h
+-- a posted_win win goes to the balance, or is held_amount where nothing else is
+win_kept : (win : ℕ) (is_small : Bool) (h : Option Handpay) → (is_small ≡ false → handpay_amount h ≡ 0)
+    → cond is_small win 0 + handpay_amount (or_else (cond is_small None (Some (Some (record { win = true; amount = win })))) h) ≡ win + handpay_amount h
 win_kept win true h only = refl
 win_kept win false h only = omega (arith, only refl)
 
 -- ================ what an event moves
 
-left_if : (is_none : Bool) (n : ℕ) (order : Order) → (is_none ≡ true → n ≡ 0) → ordered_by (cond is_none None (Some (record order { amount = n }))) ≡ n
+left_if : (is_none : Bool) (n : ℕ) (order : Order) → (is_none ≡ true → n ≡ 0) → order_amount (cond is_none None (Some (record order { amount = n }))) ≡ n
 left_if true n order none = sym (none refl)
 left_if false n order none = refl
 
-coin_less : (coin : ℕ) (order : Option Order) → ordered_by (less_coin coin order) ≡ ordered_by order - coin
+coin_less : (coin : ℕ) (order : Option Order) → order_amount (less_coin coin order) ≡ order_amount order - coin
 coin_less coin None = omega arith
 coin_less coin (Some order) = left_if (order.amount - coin == 0) (order.amount - coin) order (is_zero (order.amount - coin))
 
-paid : (n : ℕ) (p : Payment) (h : Option Handpay) → held_by h ≡ 0 → ordered_by (order_by n p) + held_by (or_else (handpay_of_payment p) h) ≡ amount_of p
+paid : (n : ℕ) (p : Payment) (h : Option Handpay) → handpay_amount h ≡ 0 → order_amount (order_by n p) + handpay_amount (or_else (handpay_of_payment p) h) ≡ amount_of p
 paid n (ByHopper amount) h none = omega (arith, none)
 paid n (ByPrinter amount) h none = omega (arith, none)
 paid n (ByHand amount) h none = omega arith
@@ -57,7 +57,7 @@ confirmed_to h m = sum_by (share m) (handpay_addition h)
 
 abbrev Confirmed : Option Handpay → Type 0
 Confirmed h =
-    (confirmed_to h Meter.Wagered + confirmed_to h Meter.VoucherOut + confirmed_to h Meter.CoinOut + confirmed_to h Meter.HandWin + confirmed_to h Meter.HandCancel ≡ held_by h)
+    (confirmed_to h Meter.Wagered + confirmed_to h Meter.VoucherOut + confirmed_to h Meter.CoinOut + confirmed_to h Meter.HandWin + confirmed_to h Meter.HandCancel ≡ handpay_amount h)
     × (confirmed_to h Meter.BillIn + confirmed_to h Meter.CoinIn + confirmed_to h Meter.VoucherIn ≡ 0)
 
 confirmed_kind : (is_win : Bool) (amount : ℕ) → Confirmed (Some (record { win = is_win; amount = amount }))
@@ -82,14 +82,14 @@ no_win false win none = refl
 
 -- ================ one event
 
--- what the rule sees to: the wager is covered, a cash-out finds nothing ordered or held, a coin is still to be paid,
--- and a win that isn't small finds nothing held
+-- what the rule sees to: the wager is covered, a cash-out finds nothing ordered_amount or held_amount, a coin is still to be paid,
+-- and a win that isn't small finds nothing held_amount
 abbrev pub Fits : Origin → List Entry → ℕ → Bool → Event → Type 0
-Fits o past win is_small (Event.Play game bet) = (wager o.setup bet ≤ balance o past) × (is_small ≡ false → held o past ≡ 0)
-Fits o past win is_small Event.CashOut = (ordered o past ≡ 0) × (held o past ≡ 0) × (win ≡ 0)
+Fits o past win is_small (Event.Play game bet) = (wager o.setup bet ≤ balance o past) × (is_small ≡ false → held_amount o past ≡ 0)
+Fits o past win is_small Event.CashOut = (ordered_amount o past ≡ 0) × (held_amount o past ≡ 0) × (win ≡ 0)
 Fits o past win is_small Event.HandpayDone = win ≡ 0
-Fits o past win is_small (Event.CoinPaid order) = (o.setup.coin ≤ ordered o past) × (is_small ≡ false → held o past ≡ 0)
-Fits o past win is_small _ = is_small ≡ false → held o past ≡ 0
+Fits o past win is_small (Event.CoinPaid order) = (o.setup.coin ≤ ordered_amount o past) × (is_small ≡ false → held_amount o past ≡ 0)
+Fits o past win is_small _ = is_small ≡ false → held_amount o past ≡ 0
 
 abbrev pub handpay_by : Origin → List Entry → ℕ → Bool → Event → Option (Option Handpay)
 handpay_by o past win is_small Event.CashOut = handpay_of_payment (payment o.setup (balance o past))
@@ -100,12 +100,12 @@ abbrev pub amount : Origin → List Entry → Event → Meter → ℕ
 amount o past event m = sum_by (share m) (event_additions o past event)
 
 event_kept : (o : Origin) (past : List Entry) (win : ℕ) (is_small : Bool) (event : Event) → Fits o past win is_small event
-    → balance o past + credit_by (ordered o past) event + cond is_small win 0 - debit_by o.setup (balance o past) event
-    + ordered_by (open_order_by o.setup (balance o past) (orders o past) (open_order o past) event)
-    + held_by (or_else (handpay_by o past win is_small event) (open_handpay o past))
+    → balance o past + credit_by (ordered_amount o past) event + cond is_small win 0 - debit_by o.setup (balance o past) event
+    + order_amount (open_order_by o.setup (balance o past) (orders o past) (open_order o past) event)
+    + handpay_amount (or_else (handpay_by o past win is_small event) (open_handpay o past))
     + amount o past event Meter.Wagered + amount o past event Meter.VoucherOut + amount o past event Meter.CoinOut
     + amount o past event Meter.HandWin + amount o past event Meter.HandCancel
-    ≡ balance o past + ordered o past + held o past + amount o past event Meter.BillIn + amount o past event Meter.CoinIn + amount o past event Meter.VoucherIn + win
+    ≡ balance o past + ordered_amount o past + held_amount o past + amount o past event Meter.BillIn + amount o past event Meter.CoinIn + amount o past event Meter.VoucherIn + win
 event_kept o past win is_small (Event.Play game bet) fits = omega (arith, fits.0, win_kept win is_small (open_handpay o past) fits.1)
 event_kept o past win is_small Event.CashOut fits =
     omega (arith, fits.0, fits.1, fits.2, no_win is_small win fits.2, payable o.setup (balance o past), paid (orders o past + 1) (payment o.setup (balance o past)) (open_handpay o past) fits.1)
@@ -158,7 +158,7 @@ abbrev pub with_taken : ℕ → Event → Option (ℕ × List ℕ) → Entry
 with_taken number event draw = record { number = number; event = event; draw = draw; reply = Reply.Taken }
 
 abbrev pub win_by : Origin → ℕ → Event → Option (ℕ × List ℕ) → List Entry → ℕ
-win_by o number event draw past = posted o (with_taken number event draw) past
+win_by o number event draw past = posted_win o (with_taken number event draw) past
 
 pub Balances-taken : (o : Origin) (number : ℕ) (event : Event) (draw : Option (ℕ × List ℕ)) (past : List Entry)
     → Fits o past (win_by o number event draw past) (nat_lt (win_by o number event draw past) o.setup.handpay_limit) event

@@ -13,12 +13,12 @@ use Rattle.gd_base.specs.declared.payout.OrderKind.{OrderKind}
 use Rattle.gd_base.specs.declared.setup.Setup.{Setup}
 use Rattle.gd_base.specs.Histories.Conditions.{lock, holds, conditions}
 use Rattle.std.proofs.Math.Nat.{le-div_iff_mul-le}
-use Rattle.gd_base.specs.Histories.Credit.{ByHopper, ByPrinter, ByHand, order_by, less_coin, open_order_by, orders, ordered_by, wager, open_order, balance}
+use Rattle.gd_base.specs.Histories.Credit.{ByHopper, ByPrinter, ByHand, order_by, less_coin, open_order_by, orders, order_amount, wager, open_order, balance}
 use Rattle.gd_base.specs.Histories.History.{Origin}
 use Rattle.gd_base.specs.Histories.Entry.{Entry}
 use Rattle.gd_base.specs.Judging.Legal.{IsLegal}
 use Rattle.gd_base.specs.Judging.Machine.{Blocks}
-use Rattle.gd_base.specs.Histories.Meters.{held_by}
+use Rattle.gd_base.specs.Histories.Meters.{handpay_amount}
 use Rattle.gd_base.specs.Judging.Rule.{rule, refusals, reply_by, while_locked, locked_up, refuse_if, unless, is_kind, is_order}
 use Rattle.gd_base.specs.Payloads.Spelled.{Spelled}
 use Rattle.gd_base.specs.Judging.Product.{machine}
@@ -62,17 +62,17 @@ all_false p (c ∷ cs) h =
     let both : (p c ≡ false) × (find p cs ≡ None) = first_none (p c) c (find p cs) h in
     (both.0, all_false p cs both.1)
 
-none_held : (h : Option Handpay) → is_some h ≡ false → held_by h ≡ 0
+none_held : (h : Option Handpay) → is_some h ≡ false → handpay_amount h ≡ 0
 none_held None h = refl
 none_held (Some p) h = absurd (cc h)
 
 pub not_held : (v : View) → while_locked v ≡ None → is_some v.handpay ≡ false
 not_held v h = (all_false (holds v) conditions (none_of (lock v) h)).1.1.1.1.1.1.1.1.1.1.0
 
-held_none : (v : View) → while_locked v ≡ None → held_by v.handpay ≡ 0
+held_none : (v : View) → while_locked v ≡ None → handpay_amount v.handpay ≡ 0
 held_none v h = none_held v.handpay (not_held v h)
 
-ordered_none : (order : Option Order) → is_some order ≡ false → ordered_by order ≡ 0
+ordered_none : (order : Option Order) → is_some order ≡ false → order_amount order ≡ 0
 ordered_none None h = refl
 ordered_none (Some order) h = absurd (cc h)
 
@@ -101,7 +101,7 @@ coin_of_kind coin OrderKind.Printer amount true whole h = absurd (cc h)
 coin_of_kind coin OrderKind.Printer amount false whole h = absurd (cc h)
 coin_of_kind coin OrderKind.Hopper amount is_number whole h = omega (arith, whole.1)
 
-coin_left : (coin number : ℕ) (order : Option Order) → AreCoins coin order → is_order OrderKind.Hopper number order ≡ true → coin ≤ ordered_by order
+coin_left : (coin number : ℕ) (order : Option Order) → AreCoins coin order → is_order OrderKind.Hopper number order ≡ true → coin ≤ order_amount order
 coin_left coin number None coins h = absurd (cc h)
 coin_left coin number (Some order) coins h = coin_of_kind coin order.kind order.amount (order.number == number) coins h
 

@@ -12,10 +12,10 @@ use Rattle.gd_base.specs.Histories.Conditions.{is_open, has_tilt, says_door, say
 use Rattle.gd_base.specs.Histories.Credit.{balance, orders, open_order, balance_after, orders_after, order_after}
 use Rattle.gd_base.specs.Histories.Devices.{last_number, kept_reply, one_for, reply_if}
 use Rattle.gd_base.specs.Histories.Entry.{Entry}
-use Rattle.gd_base.specs.Histories.History.{Origin, past_of, sum_over, added, said, or_else, with_note, count, next_place}
+use Rattle.gd_base.specs.Histories.History.{Origin, past_of, sum_over, added_amount, taken_statement, or_else, with_note, count, next_place}
 use Rattle.gd_base.specs.Histories.Meters.{meter, meter_added, open_handpay, handpay_said}
 use Rattle.gd_base.specs.Histories.Recall.{plays, events, bills, vouchers, ended_play, event_noted, bill_noted, voucher_noted}
-use Rattle.gd_base.specs.Histories.Rounds.{posted, open_round, open_after}
+use Rattle.gd_base.specs.Histories.Rounds.{posted_win, open_round, open_after}
 use Rattle.gd_base.specs.Histories.View.{View}
 use Rattle.gd_base.specs.Histories.ViewOf.{view_of, view_after}
 
@@ -31,17 +31,17 @@ view_of-append setup v entries e = ap (view_after (record { setup = setup; openi
 -- ================ sums
 
 pub sum_over-more : (amount : Entry → List Entry → ℕ) (first : ℕ) (e : Entry) (past : List Entry)
-    → sum_over amount first (e ∷ past) ≡ sum_over amount first past + added amount e past
+    → sum_over amount first (e ∷ past) ≡ sum_over amount first past + added_amount amount e past
 sum_over-more amount first e past = refl
 
 pub count-more : (o : Origin) (e : Entry) (past : List Entry) → count o (e ∷ past) ≡ count o past + 1
 count-more o e past = refl
 
-pub meter-more : (o : Origin) (m : Meter) (e : Entry) (past : List Entry) → meter o m (e ∷ past) ≡ meter o m past + added (meter_added o m) e past
+pub meter-more : (o : Origin) (m : Meter) (e : Entry) (past : List Entry) → meter o m (e ∷ past) ≡ meter o m past + added_amount (meter_added o m) e past
 meter-more o m e past = refl
 
 pub balance-more : (o : Origin) (e : Entry) (past : List Entry)
-    → balance o (e ∷ past) ≡ balance_after o.setup e (posted o e past) (balance o past) (open_order o past)
+    → balance o (e ∷ past) ≡ balance_after o.setup e (posted_win o e past) (balance o past) (open_order o past)
 balance-more o e past = refl
 
 pub orders-more : (o : Origin) (e : Entry) (past : List Entry) → orders o (e ∷ past) ≡ orders_after o.setup e (balance o past) (orders o past)
@@ -56,15 +56,15 @@ open_order-more o e past = refl
 pub open_round-more : (o : Origin) (e : Entry) (past : List Entry) → open_round o (e ∷ past) ≡ open_after o.setup e (next_place o past) (open_round o past)
 open_round-more o e past = refl
 
-pub open_handpay-more : (o : Origin) (e : Entry) (past : List Entry) → open_handpay o (e ∷ past) ≡ or_else (said (handpay_said o) e past) (open_handpay o past)
+pub open_handpay-more : (o : Origin) (e : Entry) (past : List Entry) → open_handpay o (e ∷ past) ≡ or_else (taken_statement (handpay_said o) e past) (open_handpay o past)
 open_handpay-more o e past = refl
 
 pub is_open-more : (o : Origin) (d : Door) (e : Entry) (past : List Entry)
-    → is_open o d (e ∷ past) ≡ or_else (said (λ e past. says_door d e.event) e past) (is_open o d past)
+    → is_open o d (e ∷ past) ≡ or_else (taken_statement (λ e past. says_door d e.event) e past) (is_open o d past)
 is_open-more o d e past = refl
 
 pub has_tilt-more : (o : Origin) (t : Tilt) (e : Entry) (past : List Entry)
-    → has_tilt o t (e ∷ past) ≡ or_else (said (λ e past. says_tilt t e.event) e past) (has_tilt o t past)
+    → has_tilt o t (e ∷ past) ≡ or_else (taken_statement (λ e past. says_tilt t e.event) e past) (has_tilt o t past)
 has_tilt-more o t e past = refl
 
 pub last_number-more : (o : Origin) (d : Device) (e : Entry) (past : List Entry) → last_number o d (e ∷ past) ≡ last_number o d past + one_for d e
@@ -80,17 +80,17 @@ pub take-with_note : {A : Type 0} (n : ℕ) (note : Option A) (notes : List A) �
 take-with_note n None notes = sym (take-take (suc n) (suc n) notes (omega arith))
 take-with_note n (Some a) notes = ap (λ l. a ∷ l) (sym (take-take n (suc n) notes (omega arith)))
 
-pub plays-more : (o : Origin) (e : Entry) (past : List Entry) → plays o (e ∷ past) ≡ take PLAYS_KEPT (with_note (said (ended_play o) e past) (plays o past))
+pub plays-more : (o : Origin) (e : Entry) (past : List Entry) → plays o (e ∷ past) ≡ take PLAYS_KEPT (with_note (taken_statement (ended_play o) e past) (plays o past))
 plays-more o e past = take-with_note 9 _ _
 
 pub events-more : (o : Origin) (e : Entry) (past : List Entry)
-    → events o (e ∷ past) ≡ take EVENTS_KEPT (with_note (said (event_noted o) e past) (events o past))
+    → events o (e ∷ past) ≡ take EVENTS_KEPT (with_note (taken_statement (event_noted o) e past) (events o past))
 events-more o e past = take-with_note 99 _ _
 
 pub bills-more : (o : Origin) (e : Entry) (past : List Entry)
-    → bills o (e ∷ past) ≡ take BILLS_KEPT (with_note (said (bill_noted o) e past) (bills o past))
+    → bills o (e ∷ past) ≡ take BILLS_KEPT (with_note (taken_statement (bill_noted o) e past) (bills o past))
 bills-more o e past = take-with_note 4 _ _
 
 pub vouchers-more : (o : Origin) (e : Entry) (past : List Entry)
-    → vouchers o (e ∷ past) ≡ take VOUCHERS_KEPT (with_note (said (voucher_noted o) e past) (vouchers o past))
+    → vouchers o (e ∷ past) ≡ take VOUCHERS_KEPT (with_note (taken_statement (voucher_noted o) e past) (vouchers o past))
 vouchers-more o e past = take-with_note 34 _ _

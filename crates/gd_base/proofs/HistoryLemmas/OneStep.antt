@@ -8,10 +8,10 @@ use Rattle.gd_base.specs.declared.refusal.Reply.{Reply}
 use Rattle.gd_base.specs.declared.setup.Setup.{Setup}
 use Rattle.gd_base.specs.Histories.Credit.{balance, orders, open_order, balance_after}
 use Rattle.gd_base.specs.Histories.Entry.{Entry, is_taken}
-use Rattle.gd_base.specs.Histories.History.{Origin, noted, with_note, or_else, said, next_place}
+use Rattle.gd_base.specs.Histories.History.{Origin, notes_over, with_note, or_else, taken_statement, next_place}
 use Rattle.gd_base.specs.Histories.Meters.{meters, meter, additions, share, open_handpay, says_handpay}
-use Rattle.gd_base.specs.Histories.Recall.{plays, events, bills, vouchers, play_record, play_start, start_of, says_start, ended_play, open_play, significant, event_noted, bill_noted, voucher_noted}
-use Rattle.gd_base.specs.Histories.Rounds.{Round, round_of, open_round, open_after, ended_after, win_of, posted}
+use Rattle.gd_base.specs.Histories.Recall.{plays, events, bills, vouchers, play_record, play_start, play_start_of, says_start, ended_play, open_play, significant, event_noted, bill_noted, voucher_noted}
+use Rattle.gd_base.specs.Histories.Rounds.{Round, round_of, open_round, open_after, ended_after, win_of, posted_win}
 use Rattle.gd_base.specs.Histories.ViewOf.{view_after, from_view, with_entry}
 use Rattle.gd_base.proofs.HistoryLemmas.OneMore.{take-with_note, plays-more, events-more}
 
@@ -26,7 +26,7 @@ round_of-play_record setup start after (Some r) = refl
 pub open_round-reopened : (o : Origin) (past : List Entry) → open_round (reopened o past) [] ≡ open_round o past
 open_round-reopened o past = round_of-play_record o.setup (play_start o past) 0 (open_round o past)
 
-pub posted-reopened : (o : Origin) (e : Entry) (past : List Entry) → posted (reopened o past) e [] ≡ posted o e past
+pub posted-reopened : (o : Origin) (e : Entry) (past : List Entry) → posted_win (reopened o past) e [] ≡ posted_win o e past
 posted-reopened o e past = ap (λ x. win_of o.setup (ended_after o.setup e (next_place o past) x)) (open_round-reopened o past)
 
 pub balance-reopened : (o : Origin) (e : Entry) (past : List Entry) → balance (reopened o past) (e ∷ []) ≡ balance o (e ∷ past)
@@ -41,10 +41,10 @@ totals-reopened o e past =
     ap (λ w. map (λ m. meter o m past + (if is_taken e.reply then sum_by (share m) (additions o past w e.event) else 0)) meters) (posted-reopened o e past)
 
 pub bills-reopened : (o : Origin) (e : Entry) (past : List Entry) → bills (reopened o past) (e ∷ []) ≡ bills o (e ∷ past)
-bills-reopened o e past = sym (take-with_note 4 (said (bill_noted o) e past) (noted (bill_noted o) o.opening.bills past))
+bills-reopened o e past = sym (take-with_note 4 (taken_statement (bill_noted o) e past) (notes_over (bill_noted o) o.opening.bills past))
 
 pub vouchers-reopened : (o : Origin) (e : Entry) (past : List Entry) → vouchers (reopened o past) (e ∷ []) ≡ vouchers o (e ∷ past)
-vouchers-reopened o e past = sym (take-with_note 34 (said (voucher_noted o) e past) (noted (voucher_noted o) o.opening.vouchers past))
+vouchers-reopened o e past = sym (take-with_note 34 (taken_statement (voucher_noted o) e past) (notes_over (voucher_noted o) o.opening.vouchers past))
 
 pub events-reopened : (o : Origin) (e : Entry) (past : List Entry) → events (reopened o past) (e ∷ []) ≡ events o (e ∷ past)
 events-reopened o e past =
@@ -53,7 +53,7 @@ events-reopened o e past =
 
 -- The number of an open play and the balance before it are kept with it; with no play open nothing asks for them.
 abbrev kept_start : Setup → ℕ × ℕ → Option Round → ℕ × ℕ
-kept_start setup start x = start_of (option_map (play_record setup start 0) x)
+kept_start setup start x = play_start_of (option_map (play_record setup start 0) x)
 
 abbrev start_after : Origin → List Entry → Reply → Event → ℕ × ℕ → ℕ × ℕ
 start_after o past reply event first = or_else (if is_taken reply then says_start o past event else None) first
@@ -84,7 +84,7 @@ open_play-reopened o e past =
     ∙ open_play_by o past e.number e.draw (next_place o past) (play_start o past) e.reply e.event (open_round o past)
 
 -- the play that a taken entry ends
-pub ended_play-reopened : (o : Origin) (e : Entry) (past : List Entry) → said (ended_play (reopened o past)) e [] ≡ said (ended_play o) e past
+pub ended_play-reopened : (o : Origin) (e : Entry) (past : List Entry) → taken_statement (ended_play (reopened o past)) e [] ≡ taken_statement (ended_play o) e past
 ended_play-reopened o e past =
     ap (λ x. if is_taken e.reply
     then option_map (play_record o.setup (start_after o past e.reply e.event (kept_start o.setup (play_start o past) (open_round o past))) (balance (reopened o past) (e ∷ [])))
@@ -142,10 +142,10 @@ view_after-none_more o past = λ i. record {
   order = open_order o past;
   handpay = open_handpay o past;
   kept = (view_after o past).kept;
-  plays = take-take PLAYS_KEPT PLAYS_KEPT (noted (ended_play o) o.opening.plays past) (omega arith) i;
-  events = take-take EVENTS_KEPT EVENTS_KEPT (noted (event_noted o) o.opening.events past) (omega arith) i;
-  bills = take-take BILLS_KEPT BILLS_KEPT (noted (bill_noted o) o.opening.bills past) (omega arith) i;
-  vouchers = take-take VOUCHERS_KEPT VOUCHERS_KEPT (noted (voucher_noted o) o.opening.vouchers past) (omega arith) i;
+  plays = take-take PLAYS_KEPT PLAYS_KEPT (notes_over (ended_play o) o.opening.plays past) (omega arith) i;
+  events = take-take EVENTS_KEPT EVENTS_KEPT (notes_over (event_noted o) o.opening.events past) (omega arith) i;
+  bills = take-take BILLS_KEPT BILLS_KEPT (notes_over (bill_noted o) o.opening.bills past) (omega arith) i;
+  vouchers = take-take VOUCHERS_KEPT VOUCHERS_KEPT (notes_over (voucher_noted o) o.opening.vouchers past) (omega arith) i;
 }
 
 -- a history may be cut anywhere: what was before is kept by its view alone

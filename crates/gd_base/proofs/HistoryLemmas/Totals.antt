@@ -10,7 +10,7 @@ use Rattle.gd_base.specs.Histories.Entry.{Entry}
 use Rattle.gd_base.specs.Histories.History.{Origin}
 use Rattle.gd_base.specs.Histories.Meters.{Addition, meters, meter, additions, share, with_one, with_additions}
 use Rattle.gd_base.specs.Histories.Numbers.{meter_place}
-use Rattle.gd_base.specs.Histories.Rounds.{posted}
+use Rattle.gd_base.specs.Histories.Rounds.{posted_win}
 
 one_more : (f : Meter → ℕ) (m : Meter) (amount : ℕ) → with_one m amount (map f meters) ≡ map (λ n. f n + share n (m, amount)) meters
 one_more f Meter.BillIn amount = simp add-zero refl
@@ -33,9 +33,9 @@ taken number event draw = record { number = number; event = event; draw = draw; 
 -- after a taken entry the totals are those before it with its additions
 pub totals-taken : (o : Origin) (number : ℕ) (event : Event) (draw : Option (ℕ × List ℕ)) (past : List Entry)
     → map (λ m. meter o m (taken number event draw ∷ past)) meters
-    ≡ with_additions (additions o past (posted o (taken number event draw) past) event) (map (λ m. meter o m past) meters)
+    ≡ with_additions (additions o past (posted_win o (taken number event draw) past) event) (map (λ m. meter o m past) meters)
 totals-taken o number event draw past =
-    sym (with_additions-map (additions o past (posted o (taken number event draw) past) event) (λ m. meter o m past))
+    sym (with_additions-map (additions o past (posted_win o (taken number event draw) past) event) (λ m. meter o m past))
 
 -- totals that are kept in two arrays: an amount more in the first
 pub with_one-append : (amounts counts : List ℕ) (m : Meter) (amount : ℕ) → meter_place m < length amounts

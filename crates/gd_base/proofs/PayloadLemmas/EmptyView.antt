@@ -13,8 +13,9 @@ use Rattle.gd_base.specs.declared.payout.Handpay.{Handpay}
 use Rattle.gd_base.specs.declared.payout.Order.{Order}
 use Rattle.gd_base.specs.declared.play.PlayRecord.{PlayRecord}
 use Rattle.gd_base.specs.declared.records.VoucherRecord.{VoucherRecord}
-use Rattle.gd_base.specs.Payloads.Bytes.{left_of}
-use Rattle.gd_base.specs.Payloads.ViewRules.{is_possible, view_rules, total, income, outgo, held_in, is_flagged_last, fall_from, play_limit, is_small_order, has_number, is_some_handpay, open_is, is_open_record, is_balanced, are_kept, are_places}
+use Rattle.gd_base.specs.Histories.Credit.{order_amount}
+use Rattle.gd_base.specs.Payloads.ViewRules.{is_possible, view_rules, total, income, outgo, is_flagged_last, fall_from, play_limit, is_small_order, has_number, is_some_handpay, is_open_as, is_open_record, is_balanced, are_numbered, are_places}
+use Rattle.gd_base.specs.Histories.Meters.{handpay_amount}
 use Rattle.gd_base.specs.Histories.View.{View}
 use Rattle.gd_base.specs.Histories.ViewOf.{nothing_kept}
 use Rattle.gd_base.proofs.PayloadLemmas.Itself.{numbers_by, by_places}
@@ -103,11 +104,11 @@ order_none : (orders : ℕ) (o : Option Order) → orders ≡ 0 → has_number o
 order_none orders None e h = refl
 order_none orders (Some o) e h = let le : 1 ≤ orders = at_most 1 orders (both (o.number == orders) (nat_le 1 orders) h).1 in absurd (omega (arith, e, le))
 
-handpay_none : (h : Option Handpay) → held_in h ≡ 0 → is_some_handpay h ≡ true → h ≡ None
+handpay_none : (h : Option Handpay) → handpay_amount h ≡ 0 → is_some_handpay h ≡ true → h ≡ None
 handpay_none None e t = refl
 handpay_none (Some h) e t = let le : 1 ≤ h.amount = at_most 1 h.amount t in absurd (omega (arith, e, le))
 
-play_none : (v : View) (p : Option PlayRecord) → v.count ≡ 0 → open_is (is_open_record v) p ≡ true → p ≡ None
+play_none : (v : View) (p : Option PlayRecord) → v.count ≡ 0 → is_open_as (is_open_record v) p ≡ true → p ≡ None
 play_none v None e h = refl
 play_none v (Some p) e h =
     let t = both (nat_le 1 p.place && nat_le p.place v.count) (p.after == 0) h in

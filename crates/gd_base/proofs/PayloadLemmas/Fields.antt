@@ -8,7 +8,7 @@ use Rattle.std.proofs.lemmas.List.Concat.{flat_map-cons}
 use Rattle.std.proofs.lemmas.Nat.{from_be_bytes-to_be_bytes_2, from_be_bytes-to_be_bytes_4, from_be_bytes-to_be_bytes_8}
 use Rattle.gd_base.specs.declared.refusal.Refusal.{Refusal}
 use Rattle.gd_base.specs.declared.refusal.Reply.{Reply}
-use Rattle.gd_base.specs.Payloads.Bytes.{two, four, eight, filled, flags, reply_bytes}
+use Rattle.gd_base.specs.Payloads.Bytes.{two, four, eight, filled_part, flags, reply_bytes}
 use Rattle.gd_base.specs.Payloads.Reading.{reply_of}
 use Rattle.gd_base.specs.Payloads.ViewCode.{reply_back}
 use Rattle.gd_base.specs.Payloads.ViewRules.{fall_from}
@@ -84,7 +84,7 @@ zeros_after size a b c d same e =
     cancel (replicate (size - length b) 0) c d (ap (λ (x : List ℕ). replicate (size - length x) 0 ++ c) (sym same) ∙ e)
 
 pub filled_list_reads : {A : Type 0} (size : ℕ) (f : A → List ℕ) (ok : A → Type 0) → Reads f ok → (xs ys : List A) (c d : List ℕ) → Each ok xs → Each ok ys → length xs ≡ length ys
-    → filled size (flat_map f xs) ++ c ≡ filled size (flat_map f ys) ++ d → (xs ≡ ys) × (c ≡ d)
+    → filled_part size (flat_map f xs) ++ c ≡ filled_part size (flat_map f ys) ++ d → (xs ≡ ys) × (c ≡ d)
 filled_list_reads {A} size f ok reads xs ys c d p q l e =
     let x = flat_map f xs in
     let y = flat_map f ys in

@@ -8,9 +8,9 @@ use Rattle.gd_base.specs.declared.setup.Setup.{Setup}
 use Rattle.gd_base.specs.Histories.Conditions.{flag_at}
 use Rattle.gd_base.specs.Histories.Credit.{wager}
 use Rattle.gd_base.specs.Histories.Devices.{kept_at}
-use Rattle.gd_base.specs.Histories.Recall.{play_record, start_of}
+use Rattle.gd_base.specs.Histories.Recall.{play_record, play_start_of}
 use Rattle.gd_base.specs.Histories.Rounds.{choices_of, round_of}
-use Rattle.gd_base.specs.Payloads.ViewRules.{is_possible, is_possible_under, view_rules, setup_rules, is_open_record, open_is, is_played}
+use Rattle.gd_base.specs.Payloads.ViewRules.{is_possible, is_possible_under, view_rules, setup_rules, is_open_record, is_open_as, is_played}
 use Rattle.gd_base.specs.Games.Stage.{stage, are_choices}
 use Rattle.gd_base.specs.Histories.View.{View}
 use Rattle.gd_base.specs.Histories.ViewOf.{IsItself}
@@ -62,8 +62,8 @@ taken {A} (suc n) (x ∷ xs) l = ap (λ (t : List A). x ∷ t) (taken n xs (omeg
 
 -- ================ the open play
 
-pub play_itself : (v : View) (setup : Setup) (x : Option PlayRecord) → open_is (is_open_record v) x ≡ true → open_is (is_played setup) x ≡ true
-    → option_map (play_record setup (start_of x) 0) (option_map round_of x) ≡ x
+pub play_itself : (v : View) (setup : Setup) (x : Option PlayRecord) → is_open_as (is_open_record v) x ≡ true → is_open_as (is_played setup) x ≡ true
+    → option_map (play_record setup (play_start_of x) 0) (option_map round_of x) ≡ x
 play_itself v setup None h k = refl
 play_itself v setup (Some p) h k =
     let after = is_so p.after 0 (both (nat_le 1 p.place && nat_le p.place v.count) (p.after == 0) h).1 in

@@ -9,8 +9,10 @@ use Rattle.gd_base.specs.declared.refusal.Reply.{Reply}
 use Rattle.gd_base.specs.declared.payout.Handpay.{Handpay}
 use Rattle.gd_base.specs.declared.payout.Order.{Order}
 use Rattle.gd_base.specs.declared.play.PlayRecord.{PlayRecord}
-use Rattle.gd_base.specs.Payloads.Bytes.{two, eight, filled, flags, play_bytes, event_bytes, bill_bytes, voucher_bytes, kept_bytes, handpay_bytes, kind_code, left_of, order_bytes, open_bytes, head_bytes, payload_of}
-use Rattle.gd_base.specs.Payloads.ViewRules.{is_possible, view_rules, is_event, is_bill_record, is_voucher, is_play_record, is_open_record, open_is, fall_from, play_limit, has_number, held_in, income, outgo, is_flagged_last, Spells}
+use Rattle.gd_base.specs.Payloads.Bytes.{two, eight, filled_part, flags, play_bytes, event_bytes, bill_bytes, voucher_bytes, kept_bytes, handpay_bytes, kind_code, order_bytes, open_bytes, head_bytes, payload_of}
+use Rattle.gd_base.specs.Histories.Credit.{order_amount}
+use Rattle.gd_base.specs.Payloads.ViewRules.{is_possible, view_rules, is_event, is_bill_record, is_voucher, is_play_record, is_open_record, is_open_as, fall_from, play_limit, has_number, income, outgo, is_flagged_last, Spells}
+use Rattle.gd_base.specs.Histories.Meters.{handpay_amount}
 use Rattle.gd_base.specs.Histories.View.{View}
 use Rattle.gd_base.proofs.PayloadLemmas.Fields.{Reads, Each, cons_reads, split, cancel, eight_reads, two_reads, list_reads, filled_list_reads, zeros_after, each_placed, each_passed, flags_one}
 use Rattle.gd_base.proofs.PayloadLemmas.Records.{Placed, bill_reads, voucher_reads, event_reads, play_reads, kept_reads, handpay_reads, IsAmount, IsNumbered, order_one}
@@ -35,7 +37,7 @@ pub record Widths (v : View) : Type 0 where
   pub tilts : length v.tilts ≡ 6
   pub handpay : IsAmount v.handpay
   pub orders : Short v.orders
-  pub order : Short (left_of v.order)
+  pub order : Short (order_amount v.order)
   pub numbered : IsNumbered v.orders v.order
   pub kept_len : length v.kept ≡ 9
   pub kept : Each (λ k. Short k.0) v.kept
@@ -78,7 +80,7 @@ each_kept (k ∷ ks) limit le short =
     let split : sum (map (λ k. k.0) (k ∷ ks)) ≡ k.0 + sum (map (λ k. k.0) ks) = sum_by-cons (λ (n : ℕ). n) k.0 (map (λ (j : ℕ × Option Reply). j.0) ks) in
     (omega (arith, le, split, short), each_kept ks limit (omega (arith, le, split)) short)
 
-amount_of : (h : Option Handpay) → Short (held_in h) → IsAmount h
+amount_of : (h : Option Handpay) → Short (handpay_amount h) → IsAmount h
 amount_of None short = tt
 amount_of (Some h) short = short
 
@@ -86,13 +88,13 @@ number_of : (n : ℕ) (x : Option Order) → has_number n x ≡ true → IsNumbe
 number_of n None h = tt
 number_of n (Some o) h = is_so o.number n (both (o.number == n) (nat_le 1 n) h).0
 
-limit_of : (v : View) (x : Option PlayRecord) → v.count ≤ 2 ^ 36 → open_is (is_open_record v) x ≡ true → play_limit v x ≤ 2 ^ 64
+limit_of : (v : View) (x : Option PlayRecord) → v.count ≤ 2 ^ 36 → is_open_as (is_open_record v) x ≡ true → play_limit v x ≤ 2 ^ 64
 limit_of v None le h = omega (arith, le)
 limit_of v (Some p) le h =
     let place = at_most p.place v.count (both (nat_le 1 p.place) (nat_le p.place v.count) (both (nat_le 1 p.place && nat_le p.place v.count) (p.after == 0) h).0).1 in
     omega (arith, le, place)
 
-open_of : (v : View) (x : Option PlayRecord) → v.count ≤ 2 ^ 36 → open_is is_play_record x ≡ true → open_is (is_open_record v) x ≡ true → Open x
+open_of : (v : View) (x : Option PlayRecord) → v.count ≤ 2 ^ 36 → is_open_as is_play_record x ≡ true → is_open_as (is_open_record v) x ≡ true → Open x
 open_of v None le r h = tt
 open_of v (Some p) le r h =
     let place = at_most p.place v.count (both (nat_le 1 p.place) (nat_le p.place v.count) (both (nat_le 1 p.place && nat_le p.place v.count) (p.after == 0) h).0).1 in
@@ -168,8 +170,8 @@ eleven a b c d e f g h i j k x = simp append_assoc
 -- behind the head
 abbrev records_row : View → List ℕ
 records_row v =
-    filled OPEN_PLAY_LEN (open_bytes v.play) ++ (filled PLAYS_LEN (flat_map play_bytes v.plays) ++ (filled EVENTS_LEN (flat_map event_bytes v.events)
-    ++ (filled BILLS_LEN (flat_map bill_bytes v.bills) ++ filled (VOUCHERS_LEN + REST_LEN) (flat_map voucher_bytes v.vouchers))))
+    filled_part OPEN_PLAY_LEN (open_bytes v.play) ++ (filled_part PLAYS_LEN (flat_map play_bytes v.plays) ++ (filled_part EVENTS_LEN (flat_map event_bytes v.events)
+    ++ (filled_part BILLS_LEN (flat_map bill_bytes v.bills) ++ filled_part (VOUCHERS_LEN + REST_LEN) (flat_map voucher_bytes v.vouchers))))
 
 abbrev zeros_row : View → List ℕ
 zeros_row v = replicate (HEAD_LEN - length (head_bytes v)) 0 ++ records_row v
@@ -185,14 +187,14 @@ head_row v x = v.digest ++ (eight v.count ++ (eight v.balance ++ (flat_map eight
 
 payload_row : (v : View) → payload_of v ≡ head_row v (zeros_row v)
 payload_row v =
-    six (filled HEAD_LEN (head_bytes v)) (filled OPEN_PLAY_LEN (open_bytes v.play)) (filled PLAYS_LEN (flat_map play_bytes v.plays)) (filled EVENTS_LEN (flat_map event_bytes v.events))
-    (filled BILLS_LEN (flat_map bill_bytes v.bills)) (filled (VOUCHERS_LEN + REST_LEN) (flat_map voucher_bytes v.vouchers))
+    six (filled_part HEAD_LEN (head_bytes v)) (filled_part OPEN_PLAY_LEN (open_bytes v.play)) (filled_part PLAYS_LEN (flat_map play_bytes v.plays)) (filled_part EVENTS_LEN (flat_map event_bytes v.events))
+    (filled_part BILLS_LEN (flat_map bill_bytes v.bills)) (filled_part (VOUCHERS_LEN + REST_LEN) (flat_map voucher_bytes v.vouchers))
     ∙ append_assoc (head_bytes v) (replicate (HEAD_LEN - length (head_bytes v)) 0) (records_row v)
     ∙ eleven v.digest (eight v.count) (eight v.balance) (flat_map eight v.totals) (flags v.doors ∷ flags v.tilts ∷ handpay_bytes v.handpay) (order_bytes v.orders v.order)
     (flat_map kept_bytes v.kept) (two (length v.plays)) (two (length v.events)) (two (length v.bills)) (two (length v.vouchers)) (zeros_row v)
 
 -- the open play, and zeros after it
-open_reads : (x y : Option PlayRecord) (c d : List ℕ) → Open x → Open y → filled OPEN_PLAY_LEN (open_bytes x) ++ c ≡ filled OPEN_PLAY_LEN (open_bytes y) ++ d → (x ≡ y) × (c ≡ d)
+open_reads : (x y : Option PlayRecord) (c d : List ℕ) → Open x → Open y → filled_part OPEN_PLAY_LEN (open_bytes x) ++ c ≡ filled_part OPEN_PLAY_LEN (open_bytes y) ++ d → (x ≡ y) × (c ≡ d)
 open_reads None None c d p q e = (refl, cancel (replicate OPEN_PLAY_LEN 0) c d e)
 open_reads None (Some r) c d p q e = absurd (omega (arith, (cons_reads 0 1 _ _ e).0))
 open_reads (Some r) None c d p q e = absurd (omega (arith, (cons_reads 1 0 _ _ e).0))
@@ -204,7 +206,7 @@ open_reads (Some r) (Some s) c d p q e =
     ((λ i. Some (t.0 i)), zeros_after OPEN_PLAY_LEN (1 ∷ play_bytes r) (1 ∷ play_bytes s) c d (λ i. 1 ∷ play_bytes (t.0 i)) t.1)
 
 last_reads : {A : Type 0} (size : ℕ) (f : A → List ℕ) (ok : A → Type 0) → Reads f ok → (xs ys : List A) → Each ok xs → Each ok ys → length xs ≡ length ys
-    → filled size (flat_map f xs) ≡ filled size (flat_map f ys) → xs ≡ ys
+    → filled_part size (flat_map f xs) ≡ filled_part size (flat_map f ys) → xs ≡ ys
 last_reads size f ok reads xs ys p q l e =
     (filled_list_reads size f ok reads xs ys [] [] p q l (ap (λ (t : List ℕ). t ++ []) e)).0
 
@@ -222,7 +224,7 @@ one_by_widths v w p q e =
     (order_bytes w.orders w.order ++ (flat_map kept_bytes w.kept ++ lengths_row w (zeros_row w))) p.handpay q.handpay tilts.1 in
     let kind = cons_reads (kind_code v.order) (kind_code w.order) _ _ handpay.1 in
     let orders = eight_reads v.orders w.orders _ _ p.orders q.orders (cons_reads 0 0 _ _ (cons_reads 0 0 _ _ (cons_reads 0 0 _ _ kind.1).1).1).1 in
-    let left = eight_reads (left_of v.order) (left_of w.order) (flat_map kept_bytes v.kept ++ lengths_row v (zeros_row v)) (flat_map kept_bytes w.kept ++ lengths_row w (zeros_row w)) p.order q.order orders.1 in
+    let left = eight_reads (order_amount v.order) (order_amount w.order) (flat_map kept_bytes v.kept ++ lengths_row v (zeros_row v)) (flat_map kept_bytes w.kept ++ lengths_row w (zeros_row w)) p.order q.order orders.1 in
     let order = order_one v.orders w.orders v.order w.order p.numbered q.numbered orders.0 kind.0 left.0 in
     let kept = list_reads kept_bytes (λ k. Short k.0) kept_reads v.kept w.kept (lengths_row v (zeros_row v)) (lengths_row w (zeros_row w)) p.kept q.kept (p.kept_len ∙ sym q.kept_len) left.1 in
     let plays_len = two_reads (length v.plays) (length w.plays) _ _ p.plays_len q.plays_len kept.1 in

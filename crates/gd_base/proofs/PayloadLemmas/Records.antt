@@ -9,7 +9,8 @@ use Rattle.gd_base.specs.declared.payout.Order.{Order}
 use Rattle.gd_base.specs.declared.payout.OrderKind.{OrderKind}
 use Rattle.gd_base.specs.declared.play.PlayRecord.{PlayRecord}
 use Rattle.gd_base.specs.declared.records.VoucherRecord.{VoucherRecord}
-use Rattle.gd_base.specs.Payloads.Bytes.{four, eight, choice_code, play_bytes, event_bytes, bill_bytes, voucher_bytes, reply_bytes, kept_bytes, handpay_bytes, kind_code, left_of}
+use Rattle.gd_base.specs.Payloads.Bytes.{four, eight, choice_code, play_bytes, event_bytes, bill_bytes, voucher_bytes, reply_bytes, kept_bytes, handpay_bytes, kind_code}
+use Rattle.gd_base.specs.Histories.Credit.{order_amount}
 use Rattle.gd_base.specs.Histories.Numbers.{game_number, kind_number}
 use Rattle.gd_base.specs.Payloads.ViewRules.{is_choice_value, is_bill_record, is_event, is_voucher, record_rules, is_play_record}
 use Rattle.gd_base.proofs.PayloadLemmas.Fields.{Reads, Each, cons_reads, eight_reads, four_reads, reply_reads, list_reads, each_passed}
@@ -225,7 +226,7 @@ abbrev pub IsNumbered : ℕ → Option Order → Type 0
 IsNumbered n None = Unit {0}
 IsNumbered n (Some o) = o.number ≡ n
 
-pub order_one : (m n : ℕ) (x y : Option Order) → IsNumbered m x → IsNumbered n y → m ≡ n → kind_code x ≡ kind_code y → left_of x ≡ left_of y → x ≡ y
+pub order_one : (m n : ℕ) (x y : Option Order) → IsNumbered m x → IsNumbered n y → m ≡ n → kind_code x ≡ kind_code y → order_amount x ≡ order_amount y → x ≡ y
 order_one m n None None p q same kind left = refl
 order_one m n None (Some o) p q same kind left = absurd (none_kind o.kind kind)
 order_one m n (Some o) None p q same kind left = absurd (none_kind o.kind (sym kind))

@@ -3,9 +3,9 @@ use Rattle.std.specs.Prelude.{◌≡◌, ℕ, ◌&&◌, if◌then◌else◌, Boo
 use Rattle.std.proofs.Common.{ap, sym, ◌∙◌}
 use Rattle.gd_base.specs.declared.setup.Setup.{Setup}
 use Rattle.gd_base.specs.Payloads.Bytes.{payload_of}
-use Rattle.gd_base.specs.Judging.SoFar.{machine_so_far, spelled_so_far, view_at, is_whole_so_far, is_plain, no_digest}
+use Rattle.gd_base.specs.Judging.SoFar.{machine_so_far, spelled_so_far, view_at, keeps_rules_so_far, is_plain, no_digest}
 use Rattle.gd_base.specs.Payloads.Spelled.{Spelled, Shows, Unreadable}
-use Rattle.gd_base.specs.Payloads.ViewRules.{is_possible, is_possible_under, open_is}
+use Rattle.gd_base.specs.Payloads.ViewRules.{is_possible, is_possible_under, is_open_as}
 use Rattle.gd_base.specs.Laws.TellsViews.{TellsViews, HasPayload}
 use Rattle.gd_base.specs.Judging.Product.{same_numbers}
 use Rattle.gd_base.specs.Histories.View.{View}
@@ -22,10 +22,10 @@ spelled_by false w v e = absurd (cc e)
 spelled_is : (setup : Setup) (p : List ℕ) (v : View) → spelled_so_far setup p ≡ Shows v → (is_possible v ≡ true) × (view_at p ≡ v)
 unfolding spelled_so_far
 spelled_is setup p v e =
-    let rules = is_whole_so_far setup (view_at p) in
+    let rules = keeps_rules_so_far setup (view_at p) in
     let s = spelled_by (same_numbers (payload_of (view_at p)) p && rules) (view_at p) v e in
     let t = both (same_numbers (payload_of (view_at p)) p) rules s.0 in
-    let u = both (is_possible (view_at p) && is_possible_under setup (view_at p)) (open_is is_plain (view_at p).play) t.1 in
+    let u = both (is_possible (view_at p) && is_possible_under setup (view_at p)) (is_open_as is_plain (view_at p).play) t.1 in
     let w = both (is_possible (view_at p)) (is_possible_under setup (view_at p)) u.0 in
     (ap is_possible (sym s.1) ∙ w.0, s.1)
 

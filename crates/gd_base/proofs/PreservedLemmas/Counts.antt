@@ -13,7 +13,7 @@ use Rattle.gd_base.specs.declared.setup.Setup.{Setup}
 use Rattle.gd_base.specs.Histories.Entry.{Entry, is_taken}
 use Rattle.gd_base.specs.Histories.History.{Origin}
 use Rattle.gd_base.specs.Histories.Meters.{share, event_additions, win_additions, handpay_addition, meter_added, open_handpay, door_meter}
-use Rattle.gd_base.specs.Histories.Rounds.{posted}
+use Rattle.gd_base.specs.Histories.Rounds.{posted_win}
 use Rattle.gd_base.specs.Histories.View.{View}
 use Rattle.gd_base.specs.Histories.ViewOf.{with_entry, from_view}
 use Rattle.gd_base.proofs.BooksLemmas.Books.{plain, amount}
@@ -97,13 +97,13 @@ plain_more : (setup : Setup) (v : View) (e : Entry) (m : Meter) → ((n : ℕ) �
     → amount (from_view setup v) [] e.event m ≤ 1 → more_of setup v e m ≤ 1
 plain_more setup v e m p q le =
     let o = from_view setup v in
-    let win = posted o e [] in
+    let win = posted_win o e [] in
     most_if e.reply (meter_added o m e []) (let same = plain o [] win e.event m (p win) q in omega (arith, same, le))
 
 won_more : (setup : Setup) (v : View) (e : Entry) → more_of setup v e Meter.GamesWon ≤ 1
 won_more setup v e =
     let o = from_view setup v in
-    let win = posted o e [] in
+    let win = posted_win o e [] in
     most_if e.reply (meter_added o Meter.GamesWon e [])
     (omega (arith, sum_by-append (share Meter.GamesWon) (event_additions o [] e.event) (win_additions win), games_won_none o [] e.event, won_most (win == 0) win))
 

@@ -11,7 +11,7 @@ use Rattle.gd_base.specs.Histories.Credit.{ByHopper, ByPrinter, ByHand}
 use Rattle.gd_base.specs.Histories.Entry.{Entry, is_taken}
 use Rattle.gd_base.specs.Histories.History.{or_else}
 use Rattle.gd_base.specs.Histories.Meters.{handpay_of_payment, says_handpay}
-use Rattle.gd_base.specs.Histories.Rounds.{posted}
+use Rattle.gd_base.specs.Histories.Rounds.{posted_win}
 use Rattle.gd_base.specs.Judging.Rule.{rule, refusals}
 use Rattle.gd_base.specs.Payloads.ViewRules.{is_some_handpay}
 use Rattle.gd_base.specs.Histories.View.{View}
@@ -52,4 +52,4 @@ handpay_if setup v win event Reply.Taken h is = taken_handpay setup v win event 
 handpay_if setup v win event (Reply.Refused why) h is = is
 
 pub handpay_kept : (setup : Setup) (v : View) (e : Entry) → e.reply ≡ rule setup v e.event → is_some_handpay v.handpay ≡ true → is_some_handpay (with_entry setup v e).handpay ≡ true
-handpay_kept setup v e h is = handpay_if setup v (posted (from_view setup v) e []) e.event e.reply h is
+handpay_kept setup v e h is = handpay_if setup v (posted_win (from_view setup v) e []) e.event e.reply h is

@@ -13,7 +13,7 @@ use Rattle.gd_base.specs.Histories.Credit.{Payment, ByHopper, ByPrinter, ByHand,
 use Rattle.gd_base.specs.Histories.Entry.{Entry}
 use Rattle.gd_base.specs.Histories.History.{or_else}
 use Rattle.gd_base.specs.Histories.Meters.{handpay_of_payment, handpay_of_win, says_handpay}
-use Rattle.gd_base.specs.Histories.Rounds.{Round, round_of, moved, is_over, left_open, ended_by, open_round, win_of}
+use Rattle.gd_base.specs.Histories.Rounds.{Round, round_of, moved_round, is_over, left_open, ended_by, open_round, win_of}
 use Rattle.gd_base.specs.Judging.Rule.{rule, refusals, choice_refusals}
 use Rattle.gd_base.specs.Payloads.ViewRules.{not_both, is_one_open}
 use Rattle.gd_base.specs.Histories.View.{View}
@@ -119,7 +119,7 @@ cash_step n (ByHand amount) h c none shut = second_alone c shut
 abbrev After : Setup → View → ℕ → Option (ℕ × List ℕ) → Event → Type 0
 After setup v place draw event =
     let before = option_map round_of v.play in
-    let m = moved place draw before event in
+    let m = moved_round place draw before event in
     One (is_some (open_order_by setup v.balance v.orders v.order event))
     (is_some (or_else (says_handpay setup v.balance (win_of setup (ended_by setup event m)) event) v.handpay))
     (is_some (left_open setup event before m))
@@ -128,16 +128,16 @@ taken_open : (setup : Setup) (v : View) (place : ℕ) (draw : Option (ℕ × Lis
     → One (is_some v.order) (is_some v.handpay) (is_some (option_map round_of v.play)) → After setup v place draw event
 taken_open setup v place draw (Event.Play game bet) h one =
     let r : AreNone (refusals setup v (Event.Play game bet)) = told setup v (Event.Play game bet) h in
-    player_step setup (Event.Play game bet) (option_map round_of v.play) (moved place draw (option_map round_of v.play) (Event.Play game bet)) v.order v.handpay
+    player_step setup (Event.Play game bet) (option_map round_of v.play) (moved_round place draw (option_map round_of v.play) (Event.Play game bet)) v.order v.handpay
     (not_refused (is_some v.order) Refusal.OrderOpen r.1.0) (not_held v r.0)
 taken_open setup v place draw (Event.Pick door) h one =
-    choice_step setup v (Event.Pick door) (moved place draw (option_map round_of v.play) (Event.Pick door)) _ _ (told setup v (Event.Pick door) h) one
+    choice_step setup v (Event.Pick door) (moved_round place draw (option_map round_of v.play) (Event.Pick door)) _ _ (told setup v (Event.Pick door) h) one
 taken_open setup v place draw (Event.Hold mask) h one =
-    choice_step setup v (Event.Hold mask) (moved place draw (option_map round_of v.play) (Event.Hold mask)) _ _ (told setup v (Event.Hold mask) h) one
+    choice_step setup v (Event.Hold mask) (moved_round place draw (option_map round_of v.play) (Event.Hold mask)) _ _ (told setup v (Event.Hold mask) h) one
 taken_open setup v place draw (Event.Gamble colour) h one =
-    choice_step setup v (Event.Gamble colour) (moved place draw (option_map round_of v.play) (Event.Gamble colour)) _ _ (told setup v (Event.Gamble colour) h) one
+    choice_step setup v (Event.Gamble colour) (moved_round place draw (option_map round_of v.play) (Event.Gamble colour)) _ _ (told setup v (Event.Gamble colour) h) one
 taken_open setup v place draw Event.Take h one =
-    choice_step setup v Event.Take (moved place draw (option_map round_of v.play) Event.Take) _ _ (told setup v Event.Take h) one
+    choice_step setup v Event.Take (moved_round place draw (option_map round_of v.play) Event.Take) _ _ (told setup v Event.Take h) one
 taken_open setup v place draw Event.CashOut h one =
     let r : AreNone (refusals setup v Event.CashOut) = told setup v Event.CashOut h in
     cash_step _ (payment setup v.balance) v.handpay (is_some (option_map round_of v.play)) (not_held v r.0)

@@ -12,10 +12,10 @@ use Rattle.gd_base.specs.declared.records.VoucherRecord.{VoucherRecord}
 use Rattle.gd_base.specs.declared.setup.Setup.{Setup}
 use Rattle.gd_base.specs.Histories.Credit.{balance}
 use Rattle.gd_base.specs.Histories.Entry.{Entry, is_taken}
-use Rattle.gd_base.specs.Histories.History.{Origin, said, with_note, next_place}
+use Rattle.gd_base.specs.Histories.History.{Origin, taken_statement, with_note, next_place}
 use Rattle.gd_base.specs.Histories.Meters.{says_handpay}
 use Rattle.gd_base.specs.Histories.Recall.{significant, handpay_event, bill_note, voucher_note, event_noted, bill_noted, voucher_noted}
-use Rattle.gd_base.specs.Histories.Rounds.{posted}
+use Rattle.gd_base.specs.Histories.Rounds.{posted_win}
 use Rattle.gd_base.specs.Payloads.ViewRules.{fall_from}
 use Rattle.gd_base.specs.Histories.View.{View}
 use Rattle.gd_base.specs.Histories.ViewOf.{with_entry, from_view}
@@ -97,19 +97,19 @@ pub events_fall : (setup : Setup) (v : View) (e : Entry) → fall_from (v.count 
     → fall_from ((with_entry setup v e).count + 1) (map (λ r. r.place) (with_entry setup v e).events) ≡ true
 events_fall setup v e h =
     let o = from_view setup v in
-    noted_fall (λ (r : EventRecord). r.place) EVENTS_KEPT v.count (said (event_noted o) e []) v.events
-    (if_taken (λ (r : EventRecord). r.place) (v.count + 1) e.reply (significant o [] (posted o e []) e.event) (significant_at o [] (posted o e []) e.event)) h
+    noted_fall (λ (r : EventRecord). r.place) EVENTS_KEPT v.count (taken_statement (event_noted o) e []) v.events
+    (if_taken (λ (r : EventRecord). r.place) (v.count + 1) e.reply (significant o [] (posted_win o e []) e.event) (significant_at o [] (posted_win o e []) e.event)) h
 
 pub bills_fall : (setup : Setup) (v : View) (e : Entry) → fall_from (v.count + 1) (map (λ r. r.place) v.bills) ≡ true
     → fall_from ((with_entry setup v e).count + 1) (map (λ r. r.place) (with_entry setup v e).bills) ≡ true
 bills_fall setup v e h =
     let o = from_view setup v in
-    noted_fall (λ (r : BillRecord). r.place) BILLS_KEPT v.count (said (bill_noted o) e []) v.bills
+    noted_fall (λ (r : BillRecord). r.place) BILLS_KEPT v.count (taken_statement (bill_noted o) e []) v.bills
     (if_taken (λ (r : BillRecord). r.place) (v.count + 1) e.reply (bill_note o [] e.event) (bill_at o [] e.event)) h
 
 pub vouchers_fall : (setup : Setup) (v : View) (e : Entry) → fall_from (v.count + 1) (map (λ r. r.place) v.vouchers) ≡ true
     → fall_from ((with_entry setup v e).count + 1) (map (λ r. r.place) (with_entry setup v e).vouchers) ≡ true
 vouchers_fall setup v e h =
     let o = from_view setup v in
-    noted_fall (λ (r : VoucherRecord). r.place) VOUCHERS_KEPT v.count (said (voucher_noted o) e []) v.vouchers
+    noted_fall (λ (r : VoucherRecord). r.place) VOUCHERS_KEPT v.count (taken_statement (voucher_noted o) e []) v.vouchers
     (if_taken (λ (r : VoucherRecord). r.place) (v.count + 1) e.reply (voucher_note o [] e.event) (voucher_at o [] e.event)) h

@@ -1,7 +1,7 @@
 -- Rules of a view that the next entry keeps, together.
 use Rattle.std.proofs.Common.{◌≡◌, ◌+◌, ◌&&◌, true, length, map, refl, ap}
 use Rattle.gd_base.specs.Histories.Entry.{Entry}
-use Rattle.gd_base.specs.Laws.Preserved.{kept_rules, KeepsRules}
+use Rattle.gd_base.specs.Laws.Preserved.{preserved_rules, KeepsRules}
 use Rattle.gd_base.specs.Payloads.ViewRules.{view_rules, fall_from, play_limit, are_places}
 use Rattle.gd_base.specs.Histories.View.{View}
 use Rattle.gd_base.specs.Histories.ViewOf.{with_entry}
@@ -50,4 +50,4 @@ keeps_rules setup digest spelled blocks lap v e h k next =
     let held = handpay_kept setup v e judged x.1.1.1.1.0 in
     let one = one_open_kept setup v e judged x.1.1.1.1.1.0 in
     let short = lists_short setup v e in
-    all_hold (kept_rules w) (t.0, (t.1.0, (refl, (refl, (refl, (refl, (count, (kept, (books, (counts, (orders, (events, (bills, (vouchers, (short, (o.0, (o.1, (held, (one, tt)))))))))))))))))))
+    all_hold (preserved_rules w) (t.0, (t.1.0, (refl, (refl, (refl, (refl, (count, (kept, (books, (counts, (orders, (events, (bills, (vouchers, (short, (o.0, (o.1, (held, (one, tt)))))))))))))))))))

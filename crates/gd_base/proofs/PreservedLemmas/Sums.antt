@@ -8,13 +8,14 @@ use Rattle.gd_base.specs.declared.payout.Order.{Order}
 use Rattle.gd_base.specs.declared.payout.OrderKind.{OrderKind}
 use Rattle.gd_base.specs.declared.setup.Setup.{Setup}
 use Rattle.gd_base.specs.Laws.Books.{Balances, KeepsBooks, KeepsBooksOver}
-use Rattle.gd_base.specs.Histories.Credit.{ordered_by}
+use Rattle.gd_base.specs.Histories.Credit.{order_amount}
 use Rattle.gd_base.specs.Histories.Entry.{Entry}
 use Rattle.gd_base.specs.Judging.Legal.{IsNext, IsLegal}
 use Rattle.gd_base.specs.Judging.Machine.{Blocks}
-use Rattle.gd_base.specs.Histories.Meters.{held_by}
-use Rattle.gd_base.specs.Payloads.Bytes.{left_of}
-use Rattle.gd_base.specs.Payloads.ViewRules.{is_possible, is_possible_under, view_rules, setup_rules, is_coins, is_whole, is_amount, is_small_order, held_in, income, outgo}
+use Rattle.gd_base.specs.Histories.Meters.{handpay_amount}
+use Rattle.gd_base.specs.Histories.Credit.{order_amount}
+use Rattle.gd_base.specs.Payloads.ViewRules.{is_possible, is_possible_under, view_rules, setup_rules, is_coins, is_whole_coins, is_amount, is_small_order, income, outgo}
+use Rattle.gd_base.specs.Histories.Meters.{handpay_amount}
 use Rattle.gd_base.specs.Payloads.Spelled.{Spelled}
 use Rattle.gd_base.specs.Judging.Product.{machine}
 use Rattle.gd_base.specs.Histories.View.{View}
@@ -32,7 +33,7 @@ from_quotient (suc k) coin amount rest e none some = (k, grind (arith, e, none))
 at_least : (n : ℕ) → nat_le 1 n ≡ true → 1 ≤ n
 at_least n h = grind (arith, nat_tests, h)
 
-whole_of : (setup : Setup) (kind : OrderKind) (amount : ℕ) → is_whole setup kind amount ≡ true → is_amount kind amount ≡ true → IsWhole setup.coin kind amount
+whole_of : (setup : Setup) (kind : OrderKind) (amount : ℕ) → is_whole_coins setup kind amount ≡ true → is_amount kind amount ≡ true → IsWhole setup.coin kind amount
 whole_of setup OrderKind.Printer amount h k = tt
 whole_of setup OrderKind.Hopper amount h k =
     from_quotient (amount / setup.coin) setup.coin amount (amount % setup.coin) (div-add-mod amount setup.coin) (is_so (amount % setup.coin) 0 h) (at_least amount k)
@@ -41,11 +42,11 @@ coins_of : (setup : Setup) (x : Option Order) → is_coins setup x ≡ true → 
 coins_of setup None h k = tt
 coins_of setup (Some o) h k = whole_of setup o.kind o.amount h k
 
-left_is : (x : Option Order) → ordered_by x ≡ left_of x
+left_is : (x : Option Order) → order_amount x ≡ order_amount x
 left_is None = refl
 left_is (Some o) = refl
 
-held_is : (x : Option Handpay) → held_by x ≡ held_in x
+held_is : (x : Option Handpay) → handpay_amount x ≡ handpay_amount x
 held_is None = refl
 held_is (Some h) = refl
 

@@ -14,7 +14,7 @@ use Rattle.gd_base.specs.Histories.Credit.{Payment, ByHopper, ByPrinter, ByHand,
 use Rattle.gd_base.specs.Histories.Devices.{kept_at}
 use Rattle.gd_base.specs.Histories.Entry.{Entry, device_of}
 use Rattle.gd_base.specs.Histories.Numbers.{is_device}
-use Rattle.gd_base.specs.Payloads.ViewRules.{are_kept, are_short, is_flagged_last}
+use Rattle.gd_base.specs.Payloads.ViewRules.{are_numbered, are_short, is_flagged_last}
 use Rattle.gd_base.specs.Histories.View.{View}
 use Rattle.gd_base.specs.Histories.ViewOf.{with_entry}
 use Rattle.gd_base.proofs.PayloadLemmas.Itself.{Pair, kept_by, kept_places}
@@ -84,7 +84,7 @@ all_flagged setup v e h =
     both_hold _ _ (each 0 Device.Bill) (both_hold _ _ (each 1 Device.Coin) (both_hold _ _ (each 2 Device.Reader) (both_hold _ _ (each 3 Device.Printer) (both_hold _ _ (each 4 Device.Hopper)
     (both_hold _ _ (each 5 Device.Doors) (both_hold _ _ (each 6 Device.Player) (both_hold _ _ (each 7 Device.Attendant) (both_hold _ _ (each 8 Device.Power) refl))))))))
 
-pub devices_kept : (setup : Setup) (v : View) (e : Entry) → length v.kept ≡ 9 → are_kept v ≡ true → are_kept (with_entry setup v e) ≡ true
+pub devices_kept : (setup : Setup) (v : View) (e : Entry) → length v.kept ≡ 9 → are_numbered v ≡ true → are_numbered (with_entry setup v e) ≡ true
 devices_kept setup v e len h =
     let t = both (sum (map (λ k. k.0) v.kept) == v.count) (list_all is_flagged_last v.kept) h in
     both_hold (sum (map (λ k. k.0) (with_entry setup v e).kept) == v.count + 1) (list_all is_flagged_last (with_entry setup v e).kept)

@@ -11,12 +11,12 @@ use Rattle.gd_base.specs.declared.layout.TheConstants.{HEAD_LEN, OPEN_PLAY_LEN, 
 use Rattle.gd_base.specs.declared.payout.Handpay.{Handpay}
 use Rattle.gd_base.specs.declared.play.PlayRecord.{PlayRecord}
 use Rattle.gd_base.specs.declared.setup.Setup.{Setup}
-use Rattle.gd_base.specs.Payloads.Bytes.{two, eight, filled, kept_bytes, handpay_bytes, order_bytes, open_bytes, play_bytes, event_bytes, bill_bytes, voucher_bytes, choice_code, head_bytes, payload_of}
+use Rattle.gd_base.specs.Payloads.Bytes.{two, eight, filled_part, kept_bytes, handpay_bytes, order_bytes, open_bytes, play_bytes, event_bytes, bill_bytes, voucher_bytes, choice_code, head_bytes, payload_of}
 use Rattle.gd_base.specs.Histories.Numbers.{game_number}
 use Rattle.gd_base.specs.Payloads.Reading.{number_at, short_at, sixteen_at, kept_read, handpay_read, play_read, open_read, game_of, choice_of}
-use Rattle.gd_base.specs.Judging.SoFar.{view_so_far, view_at, all_kept, is_whole_so_far, spelled_so_far, is_plain}
+use Rattle.gd_base.specs.Judging.SoFar.{view_so_far, view_at, all_kept, keeps_rules_so_far, spelled_so_far, is_plain}
 use Rattle.gd_base.specs.Payloads.Spelled.{Shows, Unreadable}
-use Rattle.gd_base.specs.Payloads.ViewRules.{is_choice_value, is_possible, is_possible_under, open_is}
+use Rattle.gd_base.specs.Payloads.ViewRules.{is_choice_value, is_possible, is_possible_under, is_open_as}
 use Rattle.gd_base.specs.Judging.Product.{same_numbers, numbers_themselves}
 use Rattle.gd_base.specs.Histories.View.{View}
 use Rattle.gd_base.specs.Payloads.ViewCode.{reply_back}
@@ -75,7 +75,7 @@ head_row count balance totals handpay kept =
     replicate 32 0 ++ eight count ++ eight balance ++ flat_map eight totals ++ 0 ∷ 0 ∷ handpay ++ order_bytes 0 None ++ flat_map kept_bytes kept ++ two 0 ++ two 0 ++ two 0 ++ two 0
 
 abbrev head_of : (count balance kind amount : ℕ) (totals : List ℕ) (kept : List Kept) → List ℕ
-head_of count balance kind amount totals kept = filled HEAD_LEN (head_row count balance totals (kind ∷ 0 ∷ eight amount) kept)
+head_of count balance kind amount totals kept = filled_part HEAD_LEN (head_row count balance totals (kind ∷ 0 ∷ eight amount) kept)
 
 module _ (count balance kind amount : ℕ) (t0 t1 t2 t3 t4 t5 t6 t7 t8 t9 ta tb tc td te tf : ℕ) (a b c d e f g h i : Kept) (rest : List ℕ) where
   abbrev here : List ℕ
@@ -258,7 +258,7 @@ module _ (p : PlayRecord) (a b c d e f g h i j k l m n o q : ℕ) (rest : List �
   it = record p { words = sixteen a b c d e f g h i j k l m n o q }
 
   abbrev there : List ℕ
-  there = filled OPEN_PLAY_LEN (1 ∷ play_bytes it) ++ rest
+  there = filled_part OPEN_PLAY_LEN (1 ∷ play_bytes it) ++ rest
 
   words_back : Each Short (sixteen a b c d e f g h i j k l m n o q) → sixteen_at 17 there ≡ sixteen a b c d e f g h i j k l m n o q
   unfolding number_at
@@ -311,11 +311,11 @@ module _ (p : PlayRecord) (a b c d e f g h i j k l m n o q : ℕ) (rest : List �
       }
 
 play_back : (p : PlayRecord) (words rest : List ℕ) → PlayWidths (record p { words = words }) → Short p.place
-    → play_read 1 (filled OPEN_PLAY_LEN (1 ∷ play_bytes (record p { words = words })) ++ rest) ≡ record p { words = words }
+    → play_read 1 (filled_part OPEN_PLAY_LEN (1 ∷ play_bytes (record p { words = words })) ++ rest) ≡ record p { words = words }
 play_back p (a ∷ b ∷ c ∷ d ∷ e ∷ f ∷ g ∷ h ∷ i ∷ j ∷ k ∷ l ∷ m ∷ n ∷ o ∷ q ∷ []) rest w short = fields_back p a b c d e f g h i j k l m n o q rest w short
 play_back p _ rest w short = absurd (omega (arith, w.sixteen))
 
-open_back : (play : Option PlayRecord) (rest : List ℕ) → Open play → open_read 0 (filled OPEN_PLAY_LEN (open_bytes play) ++ rest) ≡ play
+open_back : (play : Option PlayRecord) (rest : List ℕ) → Open play → open_read 0 (filled_part OPEN_PLAY_LEN (open_bytes play) ++ rest) ≡ play
 open_back None rest t = refl
 open_back (Some p) rest t = let back = play_back p p.words rest (play_widths p t.0) t.1 in λ j. Some (back j)
 
@@ -323,17 +323,17 @@ open_back (Some p) rest t = let back = play_back p p.words rest (play_widths p t
 
 behind : View → List ℕ
 behind v =
-    filled PLAYS_LEN (flat_map play_bytes v.plays) ++ (filled EVENTS_LEN (flat_map event_bytes v.events)
-    ++ (filled BILLS_LEN (flat_map bill_bytes v.bills) ++ filled (VOUCHERS_LEN + REST_LEN) (flat_map voucher_bytes v.vouchers)))
+    filled_part PLAYS_LEN (flat_map play_bytes v.plays) ++ (filled_part EVENTS_LEN (flat_map event_bytes v.events)
+    ++ (filled_part BILLS_LEN (flat_map bill_bytes v.bills) ++ filled_part (VOUCHERS_LEN + REST_LEN) (flat_map voucher_bytes v.vouchers)))
 
 six : (a b c d e f : List ℕ) → a ++ b ++ c ++ d ++ e ++ f ≡ a ++ (b ++ (c ++ (d ++ (e ++ f))))
 six a b c d e f = simp append_assoc
 
-payload_split : (v : View) → payload_of v ≡ filled HEAD_LEN (head_bytes v) ++ (filled OPEN_PLAY_LEN (open_bytes v.play) ++ behind v)
+payload_split : (v : View) → payload_of v ≡ filled_part HEAD_LEN (head_bytes v) ++ (filled_part OPEN_PLAY_LEN (open_bytes v.play) ++ behind v)
 unfolding behind
 payload_split v =
-    six (filled HEAD_LEN (head_bytes v)) (filled OPEN_PLAY_LEN (open_bytes v.play)) (filled PLAYS_LEN (flat_map play_bytes v.plays)) (filled EVENTS_LEN (flat_map event_bytes v.events))
-    (filled BILLS_LEN (flat_map bill_bytes v.bills)) (filled (VOUCHERS_LEN + REST_LEN) (flat_map voucher_bytes v.vouchers))
+    six (filled_part HEAD_LEN (head_bytes v)) (filled_part OPEN_PLAY_LEN (open_bytes v.play)) (filled_part PLAYS_LEN (flat_map play_bytes v.plays)) (filled_part EVENTS_LEN (flat_map event_bytes v.events))
+    (filled_part BILLS_LEN (flat_map bill_bytes v.bills)) (filled_part (VOUCHERS_LEN + REST_LEN) (flat_map voucher_bytes v.vouchers))
 
 module _ (count balance : ℕ) (totals : List ℕ) (play : Option PlayRecord) (handpay : Option Handpay) (kept : List Kept) where
   abbrev whole : View
@@ -343,10 +343,10 @@ module _ (count balance : ℕ) (totals : List ℕ) (play : Option PlayRecord) (h
   head = head_of count balance (kind_in handpay) (amount_in handpay) totals kept
 
   abbrev others : List ℕ
-  others = filled OPEN_PLAY_LEN (open_bytes play) ++ behind whole
+  others = filled_part OPEN_PLAY_LEN (open_bytes play) ++ behind whole
 
   payload_is : payload_of whole ≡ head ++ others
-  payload_is = payload_split whole ∙ ap (λ (x : List ℕ). filled HEAD_LEN (head_row count balance totals x kept) ++ others) (handpay_row handpay)
+  payload_is = payload_split whole ∙ ap (λ (x : List ℕ). filled_part HEAD_LEN (head_row count balance totals x kept) ++ others) (handpay_row handpay)
 
   view_back : Widths whole → view_at (payload_of whole) ≡ whole
   view_back w =
@@ -355,20 +355,20 @@ module _ (count balance : ℕ) (totals : List ℕ) (play : Option PlayRecord) (h
       let held = t.is_handpay ∙ handpay_back handpay in
       ap view_at payload_is ∙ (λ j. view_so_far (t.is_count j) (t.is_balance j) (t.are_totals j) (opened j) (held j) (t.are_kept j))
 
-spelled_by : (setup : Setup) (payload : List ℕ) (v : View) → view_at payload ≡ v → same_numbers (payload_of v) payload ≡ true → is_whole_so_far setup v ≡ true
+spelled_by : (setup : Setup) (payload : List ℕ) (v : View) → view_at payload ≡ v → same_numbers (payload_of v) payload ≡ true → keeps_rules_so_far setup v ≡ true
     → spelled_so_far setup payload ≡ Shows v
 unfolding spelled_so_far
 spelled_by setup payload v is same rules =
-    ap (λ (w : View). if same_numbers (payload_of w) payload && is_whole_so_far setup w then Shows w else Unreadable) is
-    ∙ ap (λ (x : Bool). if x && is_whole_so_far setup v then Shows v else Unreadable) same
+    ap (λ (w : View). if same_numbers (payload_of w) payload && keeps_rules_so_far setup w then Shows w else Unreadable) is
+    ∙ ap (λ (x : Bool). if x && keeps_rules_so_far setup v then Shows v else Unreadable) same
     ∙ ap (λ (x : Bool). if x then Shows v else Unreadable) rules
 
 -- the payload of a view of what is built spells it, where the view keeps the rules of a view
 pub spelled_back : (setup : Setup) (count balance : ℕ) (totals : List ℕ) (play : Option PlayRecord) (handpay : Option Handpay) (kept : List (ℕ × Option Reply))
-    → is_whole_so_far setup (view_so_far count balance totals play handpay kept) ≡ true
+    → keeps_rules_so_far setup (view_so_far count balance totals play handpay kept) ≡ true
     → spelled_so_far setup (payload_of (view_so_far count balance totals play handpay kept)) ≡ Shows (view_so_far count balance totals play handpay kept)
 spelled_back setup count balance totals play handpay kept rules =
     let v = view_so_far count balance totals play handpay kept in
-    let possible = (both (is_possible v) (is_possible_under setup v) (both (is_possible v && is_possible_under setup v) (open_is is_plain play) rules).0).0 in
+    let possible = (both (is_possible v) (is_possible_under setup v) (both (is_possible v && is_possible_under setup v) (is_open_as is_plain play) rules).0).0 in
     let back = view_back count balance totals play handpay kept (widths v possible) in
     spelled_by setup (payload_of v) v back (numbers_themselves (payload_of v)) rules

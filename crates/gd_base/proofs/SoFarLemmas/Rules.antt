@@ -15,13 +15,14 @@ use Rattle.gd_base.specs.Histories.Entry.{Entry, device_of}
 use Rattle.gd_base.specs.Histories.History.{or_else}
 use Rattle.gd_base.specs.Histories.Meters.{with_one, with_additions, win_additions, handpay_of_win}
 use Rattle.gd_base.specs.Histories.Recall.{play_record}
-use Rattle.gd_base.specs.Histories.Rounds.{round_of, round_stage, choices_of, new_round, chosen}
+use Rattle.gd_base.specs.Histories.Rounds.{round_of, round_stage, choices_of, new_round, with_choice}
 use Rattle.gd_base.specs.Judging.Rule.{is_bill}
 use Rattle.gd_base.specs.Setups.SetupRules.{rise_above}
-use Rattle.gd_base.specs.Judging.SoFar.{view_so_far, is_reels, is_plain, is_whole_so_far}
+use Rattle.gd_base.specs.Judging.SoFar.{view_so_far, is_reels, is_plain, keeps_rules_so_far}
 use Rattle.gd_base.specs.Histories.Devices.{with_reply}
-use Rattle.gd_base.specs.Payloads.ViewRules.{is_possible, is_possible_under, view_rules, setup_rules, record_rules, is_play_record, is_played, is_in, is_choice_value, is_some_handpay, not_both, is_placed, open_is, is_flagged_last, outgo, income, held_in}
-use Rattle.gd_base.specs.Games.Stage.{stage, is_bet, is_phase, are_choices}
+use Rattle.gd_base.specs.Payloads.ViewRules.{is_possible, is_possible_under, view_rules, setup_rules, record_rules, is_play_record, is_played, is_in, is_choice_value, is_some_handpay, not_both, is_placed, is_open_as, is_flagged_last, outgo, income}
+use Rattle.gd_base.specs.Histories.Meters.{handpay_amount}
+use Rattle.gd_base.specs.Games.Stage.{stage, is_bet, is_stage, are_choices}
 use Rattle.gd_base.proofs.PayloadLemmas.Fields.{Each, each_passed}
 use Rattle.gd_base.proofs.PreservedLemmas.Widths.{devices_kept}
 use Rattle.gd_base.proofs.BoolTests.{all_hold, all_told, at_most, both, is_below, is_equal, is_so, is_within}
@@ -43,11 +44,11 @@ pub record AreSums (count balance held : ℕ) (totals : List ℕ) : Type 0 where
 
 -- what they ask of the open play
 pub record IsKeptPlay (setup : Setup) (count : ℕ) (play : Option PlayRecord) : Type 0 where
-  pub recorded : open_is is_play_record play ≡ true
-  pub placed : open_is (is_placed count) play ≡ true
-  pub played : open_is (is_played setup) play ≡ true
-  pub going : open_is (λ p. not (is_in setup p StageOpen.Ended)) play ≡ true
-  pub plain : open_is is_plain play ≡ true
+  pub recorded : is_open_as is_play_record play ≡ true
+  pub placed : is_open_as (is_placed count) play ≡ true
+  pub played : is_open_as (is_played setup) play ≡ true
+  pub going : is_open_as (λ p. not (is_in setup p StageOpen.Ended)) play ≡ true
+  pub plain : is_open_as is_plain play ≡ true
 
 pub record AreDevices (count : ℕ) (kept : List Kept) : Type 0 where
   pub nine : length kept ≡ 9
@@ -56,16 +57,16 @@ pub record AreDevices (count : ℕ) (kept : List Kept) : Type 0 where
 pub record IsCounted (setup : Setup) (count balance : ℕ) (totals : List ℕ) (play : Option PlayRecord) (handpay : Option Handpay) (kept : List Kept) : Type 0 where
   pub room : count ≤ 2 ^ 36
   pub devices : AreDevices count kept
-  pub sums : AreSums count balance (held_in handpay) totals
+  pub sums : AreSums count balance (handpay_amount handpay) totals
   pub held : is_some_handpay handpay ≡ true
   pub alone : not_both (is_some handpay) (is_some play) ≡ true
   pub open_play : IsKeptPlay setup count play
 
 pub counted : (setup : Setup) (count balance : ℕ) (totals : List ℕ) (play : Option PlayRecord) (handpay : Option Handpay) (kept : List Kept)
-    → is_whole_so_far setup (view_so_far count balance totals play handpay kept) ≡ true → IsCounted setup count balance totals play handpay kept
+    → keeps_rules_so_far setup (view_so_far count balance totals play handpay kept) ≡ true → IsCounted setup count balance totals play handpay kept
 counted setup count balance totals play handpay kept h =
     let v = view_so_far count balance totals play handpay kept in
-    let whole = both (is_possible v && is_possible_under setup v) (open_is is_plain play) h in
+    let whole = both (is_possible v && is_possible_under setup v) (is_open_as is_plain play) h in
     let rules = both (is_possible v) (is_possible_under setup v) whole.0 in
     let t = all_told (view_rules v) rules.0 in
     let u = all_told (setup_rules setup v) rules.1 in
@@ -107,7 +108,7 @@ every_count count [] t = refl
 every_count count (n ∷ ns) t = both_hold (nat_le n count) (list_all (λ x. nat_le x count) ns) (is_within n count t.0) (every_count count ns t.1)
 
 pub whole_of : (setup : Setup) (count balance : ℕ) (totals : List ℕ) (play : Option PlayRecord) (handpay : Option Handpay) (kept : List Kept)
-    → IsCounted setup count balance totals play handpay kept → is_whole_so_far setup (view_so_far count balance totals play handpay kept) ≡ true
+    → IsCounted setup count balance totals play handpay kept → keeps_rules_so_far setup (view_so_far count balance totals play handpay kept) ≡ true
 whole_of setup count balance totals play handpay kept k =
     let v = view_so_far count balance totals play handpay kept in
     let books = k.sums.books in
@@ -144,7 +145,7 @@ whole_of setup count balance totals play handpay kept k =
       ),
     ) in
     let under = all_hold (setup_rules setup v) (refl, (refl, (k.open_play.played, (refl, (k.open_play.going, tt))))) in
-    both_hold (is_possible v && is_possible_under setup v) (open_is is_plain play) (both_hold (is_possible v) (is_possible_under setup v) possible under) k.open_play.plain
+    both_hold (is_possible v && is_possible_under setup v) (is_open_as is_plain play) (both_hold (is_possible v) (is_possible_under setup v) possible under) k.open_play.plain
 
 -- ================ an entry more of a device
 
@@ -269,11 +270,11 @@ sums_both_if b count balance held paid credit more win _ is s covered goes small
 
 -- ================ a win goes to the balance or is held
 
-goes_if : (is_small : Bool) (win : ℕ) → (if is_small then win else 0) + held_in (or_else (if is_small then None else Some (Some (record { win = true; amount = win }))) None) ≡ 0 + win
+goes_if : (is_small : Bool) (win : ℕ) → (if is_small then win else 0) + handpay_amount (or_else (if is_small then None else Some (Some (record { win = true; amount = win }))) None) ≡ 0 + win
 goes_if true win = omega arith
 goes_if false win = omega arith
 
-goes : (setup : Setup) (win : ℕ) → credited_win setup win + held_in (or_else (handpay_of_win setup win) None) ≡ 0 + win
+goes : (setup : Setup) (win : ℕ) → credited_win setup win + handpay_amount (or_else (handpay_of_win setup win) None) ≡ 0 + win
 goes setup win = goes_if (nat_lt win setup.handpay_limit) win
 
 some_if : (is_small : Bool) (win : ℕ) → (is_small ≡ false → 1 ≤ win) → is_some_handpay (or_else (if is_small then None else Some (Some (record { win = true; amount = win }))) None) ≡ true
@@ -289,7 +290,7 @@ beside_none false = refl
 
 -- ================ the open play stays
 
-placed_more : (count : ℕ) (play : Option PlayRecord) → open_is (is_placed count) play ≡ true → open_is (is_placed (count + 1)) play ≡ true
+placed_more : (count : ℕ) (play : Option PlayRecord) → is_open_as (is_placed count) play ≡ true → is_open_as (is_placed (count + 1)) play ≡ true
 placed_more count None h = refl
 placed_more count (Some p) h =
     let t = both (nat_le 1 p.place && nat_le p.place count) (p.after == 0) h in
@@ -311,7 +312,7 @@ module _ (setup : Setup) (count balance : ℕ) (totals : List ℕ) (play : Optio
   counted_refused event reply = record {
     room = omega (arith, room);
     devices = devices_more setup count kept event reply k.devices;
-    sums = sums_more count balance (held_in handpay) totals k.sums;
+    sums = sums_more count balance (handpay_amount handpay) totals k.sums;
     held = k.held;
     alone = k.alone;
     open_play = stays setup count play k.open_play;
@@ -322,7 +323,7 @@ module _ (setup : Setup) (count balance : ℕ) (totals : List ℕ) (play : Optio
   counted_bill value reply small = record {
     room = omega (arith, room);
     devices = devices_more setup count kept (Event.Bill value) reply k.devices;
-    sums = sums_bill count balance (held_in handpay) value totals k.sums small;
+    sums = sums_bill count balance (handpay_amount handpay) value totals k.sums small;
     held = k.held;
     alone = k.alone;
     open_play = stays setup count play k.open_play;
@@ -332,7 +333,7 @@ module _ (setup : Setup) (count balance : ℕ) (totals : List ℕ) (play : Optio
   counted_start reply = record {
     room = omega (arith, room);
     devices = devices_more setup count kept Event.Start reply k.devices;
-    sums = sums_start count balance (held_in handpay) totals k.sums;
+    sums = sums_start count balance (handpay_amount handpay) totals k.sums;
     held = k.held;
     alone = k.alone;
     open_play = stays setup count play k.open_play;
@@ -344,7 +345,7 @@ module _ (setup : Setup) (count balance : ℕ) (totals : List ℕ) (play : Optio
 pub begun_kept : (setup : Setup) (count number index balance bet : ℕ) (words : List ℕ)
     → is_bet Game.Reels bet ≡ true → count < 2 ^ 36 → number < 2 ^ 64 → index < 2 ^ 64 → balance < 2 ^ 64 → length words ≡ 16 → list_all (λ w. nat_lt w (2 ^ 64)) words ≡ true
     → (let r = new_round (count + 1) (Some (index, words)) Game.Reels bet in
-    is_phase (round_stage setup r).phase StageOpen.Ended ≡ false → IsKeptPlay setup (count + 1) (Some (play_record setup (number, balance) 0 r)))
+    is_stage (round_stage setup r).phase StageOpen.Ended ≡ false → IsKeptPlay setup (count + 1) (Some (play_record setup (number, balance) 0 r)))
 begun_kept setup count number index balance bet words good room n i b sixteen small going =
     let r = new_round (count + 1) (Some (index, words)) Game.Reels bet in
     let p = play_record setup (number, balance) 0 r in
@@ -390,10 +391,10 @@ reels_only Game.Poker h = absurd (cc h)
 
 -- and one whose choice is made does
 pub chosen_kept : (setup : Setup) (count door : ℕ) (p : PlayRecord) → IsKeptPlay setup count (Some p) → nat_le 1 door && nat_le door 5 ≡ true
-    → are_choices setup p.game p.bet p.words (chosen door (round_of p)).choices ≡ true → is_phase (round_stage setup (chosen door (round_of p))).phase StageOpen.Ended ≡ false
-    → IsKeptPlay setup (count + 1) (Some (play_record setup (p.number, p.before) 0 (chosen door (round_of p))))
+    → are_choices setup p.game p.bet p.words (with_choice door (round_of p)).choices ≡ true → is_stage (round_stage setup (with_choice door (round_of p))).phase StageOpen.Ended ≡ false
+    → IsKeptPlay setup (count + 1) (Some (play_record setup (p.number, p.before) 0 (with_choice door (round_of p))))
 chosen_kept setup count door p k good legal going =
-    let r = chosen door (round_of p) in
+    let r = with_choice door (round_of p) in
     let q = play_record setup (p.number, p.before) 0 r in
     let t = all_told (record_rules p) k.recorded in
     let plain = both (is_reels p.game) (p.turns == 0) k.plain in
@@ -474,7 +475,7 @@ pub counted_ended_at_once : (setup : Setup) (count balance paid win : ℕ) (tota
 counted_ended_at_once setup count balance paid win totals before kept event reply k room covered small = record {
   room = omega (arith, room);
   devices = devices_more setup count kept event reply k.devices;
-  sums = sums_both_if (win == 0) count balance 0 paid (credited_win setup win) (held_in (or_else (handpay_of_win setup win) None)) win totals refl k.sums covered (goes setup win) small;
+  sums = sums_both_if (win == 0) count balance 0 paid (credited_win setup win) (handpay_amount (or_else (handpay_of_win setup win) None)) win totals refl k.sums covered (goes setup win) small;
   held = some_held setup win;
   alone = beside_none (is_some (or_else (handpay_of_win setup win) None));
   open_play = none_open setup (count + 1);
@@ -487,7 +488,7 @@ pub counted_ended : (setup : Setup) (count balance win : ℕ) (totals : Totals) 
 counted_ended setup count balance win totals before kept event reply k room small = record {
   room = omega (arith, room);
   devices = devices_more setup count kept event reply k.devices;
-  sums = sums_win_if (win == 0) count balance 0 (credited_win setup win) (held_in (or_else (handpay_of_win setup win) None)) win totals refl k.sums (goes setup win) small;
+  sums = sums_win_if (win == 0) count balance 0 (credited_win setup win) (handpay_amount (or_else (handpay_of_win setup win) None)) win totals refl k.sums (goes setup win) small;
   held = some_held setup win;
   alone = beside_none (is_some (or_else (handpay_of_win setup win) None));
   open_play = none_open setup (count + 1);

@@ -14,8 +14,8 @@ use Rattle.gd_base.specs.Histories.Entry.{Entry, device_of}
 use Rattle.gd_base.specs.Histories.History.{or_else}
 use Rattle.gd_base.specs.Histories.Numbers.{meter_place}
 use Rattle.gd_base.specs.Histories.Meters.{meters, with_one, with_additions, win_additions, additions, handpay_of_win}
-use Rattle.gd_base.specs.Histories.Recall.{play_record, start_of}
-use Rattle.gd_base.specs.Histories.Rounds.{Round, round_of, new_round, chosen, is_over, posted, win_of}
+use Rattle.gd_base.specs.Histories.Recall.{play_record, play_start_of}
+use Rattle.gd_base.specs.Histories.Rounds.{Round, round_of, new_round, with_choice, is_over, posted_win, win_of}
 use Rattle.gd_base.specs.Judging.SoFar.{view_so_far, machine_so_far}
 use Rattle.gd_base.specs.Histories.Devices.{with_reply}
 use Rattle.gd_base.specs.Histories.View.{View}
@@ -50,7 +50,7 @@ module _ (setup : Setup) (count balance : ℕ) (totals : List ℕ) (play : Optio
   taken event = record { number = number; event = event; draw = draw; reply = Reply.Taken }
 
   abbrev win_by : Event → ℕ
-  win_by event = posted (from_view setup view) (taken event) []
+  win_by event = posted_win (from_view setup view) (taken event) []
 
   abbrev totals_by : Event → List ℕ
   totals_by event = ((machine_so_far setup).effect view (taken event)).totals
@@ -62,7 +62,7 @@ module _ (setup : Setup) (count balance : ℕ) (totals : List ℕ) (play : Optio
 
 -- the open play is that of its round
 abbrev pub IsOfRound : Setup → Option PlayRecord → Type 0
-IsOfRound setup play = option_map (play_record setup (start_of play) 0) (option_map round_of play) ≡ play
+IsOfRound setup play = option_map (play_record setup (play_start_of play) 0) (option_map round_of play) ≡ play
 
 -- ================ a refused entry counts, and is kept of its device
 
@@ -102,7 +102,7 @@ effect_start setup count balance totals play handpay kept number draw len is =
 
 -- ================ a play that begins or is moved on
 
--- the win that is posted, by whether the play has ended
+-- the win that is posted_win, by whether the play has ended
 abbrev pub won : Setup → Bool → Round → ℕ
 won setup is_ended r = win_of setup (if is_ended then Some r else None)
 
@@ -136,10 +136,10 @@ effect_play setup count balance totals handpay kept number bet index words len c
 pub effect_pick : (setup : Setup) (count balance : ℕ) (totals : List ℕ) (p : PlayRecord) (handpay : Option Handpay) (kept : List Kept) (number door : ℕ) (draw : Option (ℕ × List ℕ))
     → length totals ≡ 16
     → (machine_so_far setup).effect (view_so_far count balance totals (Some p) handpay kept) (record { number = number; event = Event.Pick door; draw = draw; reply = Reply.Taken })
-    ≡ view_moved setup (count + 1) balance totals (p.number, p.before) (chosen door (round_of p)) (is_over setup (Event.Pick door) (chosen door (round_of p))) handpay (with_reply Device.Player Reply.Taken kept)
+    ≡ view_moved setup (count + 1) balance totals (p.number, p.before) (with_choice door (round_of p)) (is_over setup (Event.Pick door) (with_choice door (round_of p))) handpay (with_reply Device.Player Reply.Taken kept)
 effect_pick setup count balance totals p handpay kept number door draw len =
     let event = Event.Pick door in
-    let r = chosen door (round_of p) in
+    let r = with_choice door (round_of p) in
     let is_ended = is_over setup event r in
     let sums = with_additions_of setup count balance totals (Some p) handpay kept number draw event len in
     let credit = less_none balance (credited_win setup (won setup is_ended r)) in

@@ -13,7 +13,7 @@ use Rattle.gd_base.specs.Setups.BuiltIn.{built_in_setup}
 use Rattle.gd_base.specs.Examples.Chance.{pick_words, royal_words, ace_words, gamble_words}
 use Rattle.gd_base.specs.Histories.Entry.{Entry}
 use Rattle.gd_base.specs.Judging.Legal.{after_events}
-use Rattle.gd_base.specs.Histories.Meters.{shown}
+use Rattle.gd_base.specs.Histories.Meters.{shown_total}
 use Rattle.gd_base.specs.Payloads.Spelled.{Unreadable}
 use Rattle.gd_base.specs.Judging.Product.{machine}
 use Rattle.gd_base.specs.Histories.View.{View}
@@ -48,7 +48,7 @@ abbrev pub times : ℕ → List Event → List Event
 times zero events = []
 times (suc n) events = events ++ times n events
 
--- the built-in setup with another handpay limit, whose rule has to be shown
+-- the built-in setup with another handpay limit, whose rule has to be shown_total
 abbrev pub with_limit : (limit : ℕ) → IsTrue (nat_le 1 limit && nat_le limit 100000000) → Setup
 with_limit limit h = record built_in_setup { handpay_limit = limit; has_handpay_limit = h }
 
@@ -122,10 +122,10 @@ pub record OneBill : Type 0 where
   pub totals : first_bill.totals ≡ 500 ∷ 0 ∷ 0 ∷ 0 ∷ 0 ∷ 0 ∷ 0 ∷ 0 ∷ 0 ∷ 0 ∷ 0 ∷ 1 ∷ 0 ∷ 0 ∷ 0 ∷ 0 ∷ []
   pub balance : first_bill.balance ≡ 500
 
--- a meter rolls over in what is shown
+-- a meter rolls over in what is shown_total
 pub record RollsOver : Type 0 where
-  pub below : shown 9999999999 ≡ 9999999999
-  pub at : shown 10000000000 ≡ 0
+  pub below : shown_total 9999999999 ≡ 9999999999
+  pub at : shown_total 10000000000 ≡ 0
 
 -- a pick that outlives a start
 pub record Pick : Type 0 where

@@ -76,7 +76,7 @@ prize setup words door = slice_index setup.prizes ((door - 1 + pick (word_at wor
 
 -- ================ cards
 
--- the cards that the words take, one after another, from those not yet dealt
+-- the cards that the words take, one after another, from those not yet dealt_cards
 abbrev pub cards_from : List ℕ → List ℕ → List ℕ
 cards_from left [] = []
 cards_from left (word ∷ words) =
@@ -84,25 +84,25 @@ cards_from left (word ∷ words) =
     slice_index left place ∷ cards_from (remove left place) words
 
 -- the ten cards that words 0 to 9 deal: a hand, and those that may replace it
-abbrev pub dealt : List ℕ → List ℕ
-dealt words = cards_from deck (take 10 words)
+abbrev pub dealt_cards : List ℕ → List ℕ
+dealt_cards words = cards_from deck (take 10 words)
 
 abbrev pub hand : List ℕ → List ℕ
-hand words = take 5 (dealt words)
+hand words = take 5 (dealt_cards words)
 
 -- whether bit i of a mask is 1
 abbrev pub has_bit : ℕ → ℕ → Bool
 has_bit mask i = mask / 2 ^ i % 2 == 1
 
 -- a hand from card i on: the held cards, and the next ones in the place of the others
-abbrev pub exchanged : ℕ → ℕ → List ℕ → List ℕ → List ℕ
-exchanged mask i [] next = []
-exchanged mask i (card ∷ cards) [] = card ∷ cards
-exchanged mask i (card ∷ cards) (new ∷ next) =
-    if has_bit mask i then card ∷ exchanged mask (i + 1) cards (new ∷ next) else new ∷ exchanged mask (i + 1) cards next
+abbrev pub exchanged_cards : ℕ → ℕ → List ℕ → List ℕ → List ℕ
+exchanged_cards mask i [] next = []
+exchanged_cards mask i (card ∷ cards) [] = card ∷ cards
+exchanged_cards mask i (card ∷ cards) (new ∷ next) =
+    if has_bit mask i then card ∷ exchanged_cards mask (i + 1) cards (new ∷ next) else new ∷ exchanged_cards mask (i + 1) cards next
 
 abbrev pub final_hand : List ℕ → ℕ → List ℕ
-final_hand words mask = exchanged mask 0 (hand words) (drop 5 (dealt words))
+final_hand words mask = exchanged_cards mask 0 (hand words) (drop 5 (dealt_cards words))
 
 -- clubs, diamonds, hearts and spades, from 0
 abbrev pub suit : ℕ → ℕ

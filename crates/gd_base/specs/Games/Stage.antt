@@ -59,12 +59,12 @@ abbrev pub is_bet : Game → ℕ → Bool
 is_bet Game.Reels bet = nat_le 1 bet && nat_le bet MOST_REELS_BET
 is_bet Game.Poker bet = nat_le 1 bet && nat_le bet MOST_POKER_BET
 
-abbrev pub is_phase : StageOpen → StageOpen → Bool
-is_phase StageOpen.Pick StageOpen.Pick = true
-is_phase StageOpen.Hold StageOpen.Hold = true
-is_phase StageOpen.Gamble StageOpen.Gamble = true
-is_phase StageOpen.Ended StageOpen.Ended = true
-is_phase _ _ = false
+abbrev pub is_stage : StageOpen → StageOpen → Bool
+is_stage StageOpen.Pick StageOpen.Pick = true
+is_stage StageOpen.Hold StageOpen.Hold = true
+is_stage StageOpen.Gamble StageOpen.Gamble = true
+is_stage StageOpen.Ended StageOpen.Ended = true
+is_stage _ _ = false
 
 abbrev pub is_choice : Setup → Game → List ℕ → Option ℕ → Bool
 is_choice setup game words None = true
@@ -76,7 +76,7 @@ abbrev pub could_turn : Setup → Game → ℕ → List ℕ → Choices → ℕ 
 could_turn setup game bet words choices zero = true
 could_turn setup game bet words choices (suc t) =
     could_turn setup game bet words choices t
-    && is_phase (stage setup game bet words (record choices { turns = t })).phase StageOpen.Gamble
+    && is_stage (stage setup game bet words (record choices { turns = t })).phase StageOpen.Gamble
 
 abbrev pub are_choices : Setup → Game → ℕ → List ℕ → Choices → Bool
 are_choices setup game bet words choices =

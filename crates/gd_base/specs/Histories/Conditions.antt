@@ -32,14 +32,14 @@ abbrev pub is_open : Origin → Door → List Entry → Bool
 is_open o d past = latest (λ e past. says_door d e.event) (flag_at o.opening.doors (door_place d)) past
 
 -- the tilt that an event raises
-abbrev pub raised : Event → Option Tilt
-raised Event.BillJam = Some Tilt.BillJam
-raised Event.CoinJam = Some Tilt.CoinJam
-raised Event.StackerFull = Some Tilt.StackerFull
-raised Event.PaperOut = Some Tilt.PaperOut
-raised (Event.PrintFail order) = Some Tilt.PrintFail
-raised (Event.HopperEmpty order) = Some Tilt.HopperEmpty
-raised _ = None
+abbrev pub raised_tilt : Event → Option Tilt
+raised_tilt Event.BillJam = Some Tilt.BillJam
+raised_tilt Event.CoinJam = Some Tilt.CoinJam
+raised_tilt Event.StackerFull = Some Tilt.StackerFull
+raised_tilt Event.PaperOut = Some Tilt.PaperOut
+raised_tilt (Event.PrintFail order) = Some Tilt.PrintFail
+raised_tilt (Event.HopperEmpty order) = Some Tilt.HopperEmpty
+raised_tilt _ = None
 
 abbrev pub says_raised : Tilt → Option Tilt → Option Bool
 says_raised t None = None
@@ -47,7 +47,7 @@ says_raised t (Some tilt) = if is_tilt tilt t then Some true else None
 
 abbrev pub says_tilt : Tilt → Event → Option Bool
 says_tilt t (Event.ClearTilt tilt) = if is_tilt tilt t then Some false else None
-says_tilt t e = says_raised t (raised e)
+says_tilt t e = says_raised t (raised_tilt e)
 
 -- a tilt stands where the latest entry about it raises it
 abbrev pub has_tilt : Origin → Tilt → List Entry → Bool

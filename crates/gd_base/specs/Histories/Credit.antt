@@ -6,7 +6,7 @@ use Rattle.gd_base.specs.declared.payout.OrderKind.{OrderKind}
 use Rattle.gd_base.specs.declared.setup.Setup.{Setup}
 use Rattle.gd_base.specs.Histories.Entry.{Entry, is_taken}
 use Rattle.gd_base.specs.Histories.History.{Origin}
-use Rattle.gd_base.specs.Histories.Rounds.{posted}
+use Rattle.gd_base.specs.Histories.Rounds.{posted_win}
 
 -- how a cash-out pays
 pub data Payment : Type 0 where
@@ -29,7 +29,7 @@ amount_of (ByHand amount) = amount
 abbrev pub wager : Setup → ℕ → ℕ
 wager setup bet = bet * setup.denom
 
--- a posted win below the handpay limit goes to the balance
+-- a posted_win win below the handpay limit goes to the balance
 abbrev pub credited_win : Setup → ℕ → ℕ
 credited_win setup win = if nat_lt win setup.handpay_limit then win else 0
 
@@ -37,12 +37,12 @@ credited_win setup win = if nat_lt win setup.handpay_limit then win else 0
 
 -- what it adds to the balance, and takes from it
 abbrev pub credit_by : ℕ → Event → ℕ
-credit_by ordered (Event.Bill value) = value
-credit_by ordered (Event.Coin value) = value
-credit_by ordered (Event.VoucherIn id value) = value
-credit_by ordered (Event.PrintFail order) = ordered
-credit_by ordered (Event.HopperEmpty order) = ordered
-credit_by ordered _ = 0
+credit_by ordered_amount (Event.Bill value) = value
+credit_by ordered_amount (Event.Coin value) = value
+credit_by ordered_amount (Event.VoucherIn id value) = value
+credit_by ordered_amount (Event.PrintFail order) = ordered_amount
+credit_by ordered_amount (Event.HopperEmpty order) = ordered_amount
+credit_by ordered_amount _ = 0
 
 abbrev pub debit_by : Setup → ℕ → Event → ℕ
 debit_by setup balance (Event.Play game bet) = wager setup bet
@@ -77,16 +77,16 @@ open_order_by setup balance orders before (Event.PrintFail order) = None
 open_order_by setup balance orders before (Event.HopperEmpty order) = None
 open_order_by setup balance orders before _ = before
 
--- what is ordered: the amount of the open order, with the coins that were paid taken off
-abbrev pub ordered_by : Option Order → ℕ
-ordered_by None = 0
-ordered_by (Some order) = order.amount
+-- what is ordered_amount: the amount of the open order, with the coins that were paid taken off
+abbrev pub order_amount : Option Order → ℕ
+order_amount None = 0
+order_amount (Some order) = order.amount
 
 -- ================ after an entry
 
 abbrev pub balance_after : Setup → Entry → ℕ → ℕ → Option Order → ℕ
 balance_after setup e win balance order =
-    if is_taken e.reply then balance + credit_by (ordered_by order) e.event + credited_win setup win - debit_by setup balance e.event else balance
+    if is_taken e.reply then balance + credit_by (order_amount order) e.event + credited_win setup win - debit_by setup balance e.event else balance
 
 abbrev pub orders_after : Setup → Entry → ℕ → ℕ → ℕ
 orders_after setup e balance orders = if is_taken e.reply then orders + orders_by setup balance e.event else orders
@@ -97,7 +97,7 @@ order_after setup e balance orders order = if is_taken e.reply then open_order_b
 abbrev mutual
   pub balance : Origin → List Entry → ℕ
   balance o [] = o.opening.balance
-  balance o (e ∷ past) = balance_after o.setup e (posted o e past) (balance o past) (open_order o past)
+  balance o (e ∷ past) = balance_after o.setup e (posted_win o e past) (balance o past) (open_order o past)
 
   -- how many orders so far; the latest has this number
   pub orders : Origin → List Entry → ℕ
@@ -109,5 +109,5 @@ abbrev mutual
   open_order o [] = o.opening.order
   open_order o (e ∷ past) = order_after o.setup e (balance o past) (orders o past) (open_order o past)
 
-abbrev pub ordered : Origin → List Entry → ℕ
-ordered o past = ordered_by (open_order o past)
+abbrev pub ordered_amount : Origin → List Entry → ℕ
+ordered_amount o past = order_amount (open_order o past)

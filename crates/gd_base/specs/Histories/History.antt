@@ -16,17 +16,17 @@ abbrev pub past_of : List Entry → List Entry
 past_of entries = reverse entries
 
 -- what an entry adds, where it was taken
-abbrev pub added : (Entry → List Entry → ℕ) → Entry → List Entry → ℕ
-added amount e past = if is_taken e.reply then amount e past else 0
+abbrev pub added_amount : (Entry → List Entry → ℕ) → Entry → List Entry → ℕ
+added_amount amount e past = if is_taken e.reply then amount e past else 0
 
 -- a first total and the sum, over the taken entries, of an amount that may depend on the entries before
 abbrev pub sum_over : (Entry → List Entry → ℕ) → ℕ → List Entry → ℕ
 sum_over amount first [] = first
-sum_over amount first (e ∷ past) = sum_over amount first past + added amount e past
+sum_over amount first (e ∷ past) = sum_over amount first past + added_amount amount e past
 
 -- what an entry says, where it was taken
-abbrev pub said : {A : Type 0} → (Entry → List Entry → Option A) → Entry → List Entry → Option A
-said says e past = if is_taken e.reply then says e past else None
+abbrev pub taken_statement : {A : Type 0} → (Entry → List Entry → Option A) → Entry → List Entry → Option A
+taken_statement says e past = if is_taken e.reply then says e past else None
 
 -- the first, or else the second
 abbrev pub or_else : {A : Type 0} → Option A → A → A
@@ -36,16 +36,16 @@ or_else (Some b) a = b
 -- what the latest taken entry says that says something, and before any the given value
 abbrev pub latest : {A : Type 0} → (Entry → List Entry → Option A) → A → List Entry → A
 latest says first [] = first
-latest says first (e ∷ past) = or_else (said says e past) (latest says first past)
+latest says first (e ∷ past) = or_else (taken_statement says e past) (latest says first past)
 
 abbrev pub with_note : {A : Type 0} → Option A → List A → List A
 with_note None notes = notes
 with_note (Some a) notes = a ∷ notes
 
 -- the notes that the taken entries make, the newest first, before those that were there
-abbrev pub noted : {A : Type 0} → (Entry → List Entry → Option A) → List A → List Entry → List A
-noted says first [] = first
-noted says first (e ∷ past) = with_note (said says e past) (noted says first past)
+abbrev pub notes_over : {A : Type 0} → (Entry → List Entry → Option A) → List A → List Entry → List A
+notes_over says first [] = first
+notes_over says first (e ∷ past) = with_note (taken_statement says e past) (notes_over says first past)
 
 -- how many entries, taken or refused
 abbrev pub count : Origin → List Entry → ℕ

@@ -5,11 +5,11 @@ use Rattle.gd_base.specs.declared.event.Event.{Event}
 use Rattle.gd_base.specs.declared.meter.Meter.{Meter}
 use Rattle.gd_base.specs.declared.payout.Handpay.{Handpay}
 use Rattle.gd_base.specs.declared.setup.Setup.{Setup}
-use Rattle.gd_base.specs.Histories.Credit.{Payment, ByHopper, ByPrinter, ByHand, payment, wager, balance, ordered}
+use Rattle.gd_base.specs.Histories.Credit.{Payment, ByHopper, ByPrinter, ByHand, payment, wager, balance, ordered_amount}
 use Rattle.gd_base.specs.Histories.Entry.{Entry}
 use Rattle.gd_base.specs.Histories.History.{Origin, sum_over, latest}
 use Rattle.gd_base.specs.Histories.Numbers.{meter_place}
-use Rattle.gd_base.specs.Histories.Rounds.{posted}
+use Rattle.gd_base.specs.Histories.Rounds.{posted_win}
 
 abbrev pub meters : List Meter
 meters =
@@ -29,7 +29,7 @@ handpay_of_payment (ByHopper amount) = None
 handpay_of_payment (ByPrinter amount) = None
 handpay_of_payment (ByHand amount) = Some (Some (record { win = false; amount = amount }))
 
--- a posted win that the handpay limit keeps from the balance
+-- a posted_win win that the handpay limit keeps from the balance
 abbrev pub handpay_of_win : Setup → ℕ → Option (Option Handpay)
 handpay_of_win setup win = if nat_lt win setup.handpay_limit then None else Some (Some (record { win = true; amount = win }))
 
@@ -40,17 +40,17 @@ says_handpay setup balance win Event.HandpayDone = Some None
 says_handpay setup balance win _ = handpay_of_win setup win
 
 abbrev pub handpay_said : Origin → Entry → List Entry → Option (Option Handpay)
-handpay_said o e past = says_handpay o.setup (balance o past) (posted o e past) e.event
+handpay_said o e past = says_handpay o.setup (balance o past) (posted_win o e past) e.event
 
 abbrev pub open_handpay : Origin → List Entry → Option Handpay
 open_handpay o past = latest (handpay_said o) o.opening.handpay past
 
-abbrev pub held_by : Option Handpay → ℕ
-held_by None = 0
-held_by (Some h) = h.amount
+abbrev pub handpay_amount : Option Handpay → ℕ
+handpay_amount None = 0
+handpay_amount (Some h) = h.amount
 
-abbrev pub held : Origin → List Entry → ℕ
-held o past = held_by (open_handpay o past)
+abbrev pub held_amount : Origin → List Entry → ℕ
+held_amount o past = handpay_amount (open_handpay o past)
 
 -- ================ what a taken entry adds to which meters
 
@@ -65,7 +65,7 @@ abbrev pub event_additions : Origin → List Entry → Event → List Addition
 event_additions o past (Event.Bill value) = (Meter.BillIn, value) ∷ []
 event_additions o past (Event.Coin value) = (Meter.CoinIn, value) ∷ []
 event_additions o past (Event.VoucherIn id value) = (Meter.VoucherIn, value) ∷ []
-event_additions o past (Event.Printed order) = (Meter.VoucherOut, ordered o past) ∷ []
+event_additions o past (Event.Printed order) = (Meter.VoucherOut, ordered_amount o past) ∷ []
 event_additions o past (Event.CoinPaid order) = (Meter.CoinOut, o.setup.coin) ∷ []
 event_additions o past (Event.Play game bet) = (Meter.Wagered, wager o.setup bet) ∷ (Meter.GamesPlayed, 1) ∷ []
 event_additions o past Event.HandpayDone = handpay_addition (open_handpay o past)
@@ -84,7 +84,7 @@ abbrev pub share : Meter → Addition → ℕ
 share m a = if meter_place a.0 == meter_place m then a.1 else 0
 
 abbrev pub meter_added : Origin → Meter → Entry → List Entry → ℕ
-meter_added o m e past = sum_by (share m) (additions o past (posted o e past) e.event)
+meter_added o m e past = sum_by (share m) (additions o past (posted_win o e past) e.event)
 
 abbrev pub meter : Origin → Meter → List Entry → ℕ
 meter o m past = sum_over (meter_added o m) (slice_index o.opening.totals (meter_place m)) past
@@ -98,6 +98,6 @@ abbrev pub with_additions : List Addition → List ℕ → List ℕ
 with_additions [] totals = totals
 with_additions (a ∷ others) totals = with_additions others (with_one a.0 a.1 totals)
 
--- a total as it is shown
-abbrev pub shown : ℕ → ℕ
-shown total = total % 10 ^ 10
+-- a total as it is shown_total
+abbrev pub shown_total : ℕ → ℕ
+shown_total total = total % 10 ^ 10

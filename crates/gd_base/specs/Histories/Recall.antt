@@ -10,13 +10,13 @@ use Rattle.gd_base.specs.declared.play.PlayRecord.{PlayRecord}
 use Rattle.gd_base.specs.declared.meter.Meter.{Meter}
 use Rattle.gd_base.specs.declared.records.VoucherRecord.{VoucherRecord}
 use Rattle.gd_base.specs.declared.setup.Setup.{Setup}
-use Rattle.gd_base.specs.Histories.Conditions.{raised}
-use Rattle.gd_base.specs.Histories.Credit.{wager, balance, ordered}
+use Rattle.gd_base.specs.Histories.Conditions.{raised_tilt}
+use Rattle.gd_base.specs.Histories.Credit.{wager, balance, ordered_amount}
 use Rattle.gd_base.specs.Histories.Entry.{Entry}
 use Rattle.gd_base.specs.Histories.Numbers.{door_place, tilt_place}
-use Rattle.gd_base.specs.Histories.History.{Origin, latest, noted, next_place}
-use Rattle.gd_base.specs.Histories.Meters.{meter, says_handpay, held}
-use Rattle.gd_base.specs.Histories.Rounds.{Round, round_stage, ended_round, open_round, posted}
+use Rattle.gd_base.specs.Histories.History.{Origin, latest, notes_over, next_place}
+use Rattle.gd_base.specs.Histories.Meters.{meter, says_handpay, held_amount}
+use Rattle.gd_base.specs.Histories.Rounds.{Round, round_stage, ended_round, open_round, posted_win}
 
 -- ================ plays
 
@@ -28,12 +28,12 @@ says_start o past _ = None
 abbrev pub start_said : Origin → Entry → List Entry → Option (ℕ × ℕ)
 start_said o e past = says_start o past e.event
 
-abbrev pub start_of : Option PlayRecord → ℕ × ℕ
-start_of None = (0, 0)
-start_of (Some p) = (p.number, p.before)
+abbrev pub play_start_of : Option PlayRecord → ℕ × ℕ
+play_start_of None = (0, 0)
+play_start_of (Some p) = (p.number, p.before)
 
 abbrev pub play_start : Origin → List Entry → ℕ × ℕ
-play_start o past = latest (start_said o) (start_of o.opening.play) past
+play_start o past = latest (start_said o) (play_start_of o.opening.play) past
 
 abbrev pub play_record : Setup → ℕ × ℕ → ℕ → Round → PlayRecord
 play_record setup start after r = record {
@@ -60,7 +60,7 @@ abbrev pub ended_play : Origin → Entry → List Entry → Option PlayRecord
 ended_play o e past = option_map (play_record o.setup (play_start o (e ∷ past)) (balance o (e ∷ past))) (ended_round o e past)
 
 abbrev pub plays : Origin → List Entry → List PlayRecord
-plays o past = take PLAYS_KEPT (noted (ended_play o) o.opening.plays past)
+plays o past = take PLAYS_KEPT (notes_over (ended_play o) o.opening.plays past)
 
 -- ================ significant events
 
@@ -85,20 +85,20 @@ significant o past win Event.Start = Some (event_record (next_place o past) 1 0)
 significant o past win (Event.DoorOpen door) = Some (event_record (next_place o past) 2 (door_place door + 1))
 significant o past win (Event.DoorShut door) = Some (event_record (next_place o past) 3 (door_place door + 1))
 significant o past win (Event.ClearTilt tilt) = Some (event_record (next_place o past) 5 (tilt_place tilt + 5))
-significant o past win Event.HandpayDone = Some (event_record (next_place o past) 8 (held o past))
-significant o past win Event.BillJam = tilt_event o past (raised Event.BillJam)
-significant o past win Event.CoinJam = tilt_event o past (raised Event.CoinJam)
-significant o past win Event.StackerFull = tilt_event o past (raised Event.StackerFull)
-significant o past win Event.PaperOut = tilt_event o past (raised Event.PaperOut)
-significant o past win (Event.PrintFail order) = tilt_event o past (raised (Event.PrintFail order))
-significant o past win (Event.HopperEmpty order) = tilt_event o past (raised (Event.HopperEmpty order))
+significant o past win Event.HandpayDone = Some (event_record (next_place o past) 8 (held_amount o past))
+significant o past win Event.BillJam = tilt_event o past (raised_tilt Event.BillJam)
+significant o past win Event.CoinJam = tilt_event o past (raised_tilt Event.CoinJam)
+significant o past win Event.StackerFull = tilt_event o past (raised_tilt Event.StackerFull)
+significant o past win Event.PaperOut = tilt_event o past (raised_tilt Event.PaperOut)
+significant o past win (Event.PrintFail order) = tilt_event o past (raised_tilt (Event.PrintFail order))
+significant o past win (Event.HopperEmpty order) = tilt_event o past (raised_tilt (Event.HopperEmpty order))
 significant o past win event = handpay_event o past (says_handpay o.setup (balance o past) win event)
 
 abbrev pub event_noted : Origin → Entry → List Entry → Option EventRecord
-event_noted o e past = significant o past (posted o e past) e.event
+event_noted o e past = significant o past (posted_win o e past) e.event
 
 abbrev pub events : Origin → List Entry → List EventRecord
-events o past = take EVENTS_KEPT (noted (event_noted o) o.opening.events past)
+events o past = take EVENTS_KEPT (notes_over (event_noted o) o.opening.events past)
 
 -- ================ bills and vouchers
 
@@ -110,7 +110,7 @@ abbrev pub bill_noted : Origin → Entry → List Entry → Option BillRecord
 bill_noted o e past = bill_note o past e.event
 
 abbrev pub bills : Origin → List Entry → List BillRecord
-bills o past = take BILLS_KEPT (noted (bill_noted o) o.opening.bills past)
+bills o past = take BILLS_KEPT (notes_over (bill_noted o) o.opening.bills past)
 
 abbrev pub voucher_record : ℕ → ℕ → ℕ → ℕ → VoucherRecord
 voucher_record place kind id value = record { place = place; kind = kind; id = id; value = value }
@@ -118,11 +118,11 @@ voucher_record place kind id value = record { place = place; kind = kind; id = i
 -- a voucher taken in is of kind 1, and one printed, whose id is the order's number, of kind 2
 abbrev pub voucher_note : Origin → List Entry → Event → Option VoucherRecord
 voucher_note o past (Event.VoucherIn id value) = Some (voucher_record (next_place o past) 1 id value)
-voucher_note o past (Event.Printed order) = Some (voucher_record (next_place o past) 2 order (ordered o past))
+voucher_note o past (Event.Printed order) = Some (voucher_record (next_place o past) 2 order (ordered_amount o past))
 voucher_note o past _ = None
 
 abbrev pub voucher_noted : Origin → Entry → List Entry → Option VoucherRecord
 voucher_noted o e past = voucher_note o past e.event
 
 abbrev pub vouchers : Origin → List Entry → List VoucherRecord
-vouchers o past = take VOUCHERS_KEPT (noted (voucher_noted o) o.opening.vouchers past)
+vouchers o past = take VOUCHERS_KEPT (notes_over (voucher_noted o) o.opening.vouchers past)

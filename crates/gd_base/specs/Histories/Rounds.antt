@@ -11,7 +11,7 @@ use Rattle.gd_base.specs.declared.play.StageOpen.{StageOpen}
 use Rattle.gd_base.specs.declared.setup.Setup.{Setup}
 use Rattle.gd_base.specs.Histories.Entry.{Entry, is_taken}
 use Rattle.gd_base.specs.Histories.History.{Origin, next_place}
-use Rattle.gd_base.specs.Games.Stage.{stage, is_phase}
+use Rattle.gd_base.specs.Games.Stage.{stage, is_stage}
 
 -- a play without its number and its money
 pub record Round : Type 0 where
@@ -39,11 +39,11 @@ colour_bit Colour.Red = 0
 colour_bit Colour.Black = 1
 
 -- a round with a pick or a hold, and with a gamble turn more
-abbrev pub chosen : ℕ → Round → Round
-chosen choice r = record r { choices = record r.choices { choice = Some choice } }
+abbrev pub with_choice : ℕ → Round → Round
+with_choice choice r = record r { choices = record r.choices { choice = Some choice } }
 
-abbrev pub turned : Colour → Round → Round
-turned colour r = record r { choices = record r.choices { turns = r.choices.turns + 1; colours = r.choices.colours + colour_bit colour * 2 ^ r.choices.turns } }
+abbrev pub with_turn : Colour → Round → Round
+with_turn colour r = record r { choices = record r.choices { turns = r.choices.turns + 1; colours = r.choices.colours + colour_bit colour * 2 ^ r.choices.turns } }
 
 abbrev pub draw_index : Option (ℕ × List ℕ) → ℕ
 draw_index None = 0
@@ -57,23 +57,23 @@ abbrev pub new_round : ℕ → Option (ℕ × List ℕ) → Game → ℕ → Rou
 new_round place draw game bet = record { index = draw_index draw; words = draw_words draw; game = game; bet = bet; choices = no_choices; place = place }
 
 -- the play that an event moves on, as it is after it, by the one that was open and the place and draw of the entry
-abbrev pub moved : ℕ → Option (ℕ × List ℕ) → Option Round → Event → Option Round
-moved place draw before (Event.Play game bet) = Some (new_round place draw game bet)
-moved place draw before (Event.Pick door) = option_map (chosen door) before
-moved place draw before (Event.Hold mask) = option_map (chosen mask) before
-moved place draw before (Event.Gamble colour) = option_map (turned colour) before
-moved place draw before Event.Take = before
-moved place draw before _ = None
+abbrev pub moved_round : ℕ → Option (ℕ × List ℕ) → Option Round → Event → Option Round
+moved_round place draw before (Event.Play game bet) = Some (new_round place draw game bet)
+moved_round place draw before (Event.Pick door) = option_map (with_choice door) before
+moved_round place draw before (Event.Hold mask) = option_map (with_choice mask) before
+moved_round place draw before (Event.Gamble colour) = option_map (with_turn colour) before
+moved_round place draw before Event.Take = before
+moved_round place draw before _ = None
 
 abbrev pub is_take : Event → Bool
 is_take Event.Take = true
 is_take _ = false
 
--- whether an event ends the play that it moved on
+-- whether an event ends the play that it moved_round on
 abbrev pub is_over : Setup → Event → Round → Bool
-is_over setup event r = is_take event || is_phase (round_stage setup r).phase StageOpen.Ended
+is_over setup event r = is_take event || is_stage (round_stage setup r).phase StageOpen.Ended
 
--- what is open after an event that moved a play on, or none
+-- what is open after an event that moved_round a play on, or none
 abbrev pub left_open : Setup → Event → Option Round → Option Round → Option Round
 left_open setup event before None = before
 left_open setup event before (Some r) = if is_over setup event r then None else Some r
@@ -84,7 +84,7 @@ ended_by setup event None = None
 ended_by setup event (Some r) = if is_over setup event r then Some r else None
 
 abbrev pub open_after : Setup → Entry → ℕ → Option Round → Option Round
-open_after setup e place before = if is_taken e.reply then left_open setup e.event before (moved place e.draw before e.event) else before
+open_after setup e place before = if is_taken e.reply then left_open setup e.event before (moved_round place e.draw before e.event) else before
 
 abbrev pub open_round : Origin → List Entry → Option Round
 open_round o [] = option_map round_of o.opening.play
@@ -92,7 +92,7 @@ open_round o (e ∷ past) = open_after o.setup e (next_place o past) (open_round
 
 -- the play that a taken entry ends, by the one that was open
 abbrev pub ended_after : Setup → Entry → ℕ → Option Round → Option Round
-ended_after setup e place before = ended_by setup e.event (moved place e.draw before e.event)
+ended_after setup e place before = ended_by setup e.event (moved_round place e.draw before e.event)
 
 abbrev pub ended_round : Origin → Entry → List Entry → Option Round
 ended_round o e past = ended_after o.setup e (next_place o past) (open_round o past)
@@ -102,5 +102,5 @@ win_of setup None = 0
 win_of setup (Some r) = (round_stage setup r).win
 
 -- the win that a taken entry posts
-abbrev pub posted : Origin → Entry → List Entry → ℕ
-posted o e past = win_of o.setup (ended_round o e past)
+abbrev pub posted_win : Origin → Entry → List Entry → ℕ
+posted_win o e past = win_of o.setup (ended_round o e past)

@@ -23,9 +23,9 @@ text setup What.Recall v = recall_text setup v
 text setup What.Events v = events_text v
 text setup What.Order v = order_text setup v
 
-abbrev pub number_of : Option Order → ℕ
-number_of None = 0
-number_of (Some order) = order.number
+abbrev pub open_order_number : Option Order → ℕ
+open_order_number None = 0
+open_order_number (Some order) = order.number
 
 abbrev pub same_numbers : List ℕ → List ℕ → Bool
 same_numbers [] [] = true
@@ -58,7 +58,7 @@ machine setup digest spelled = record {
   rule = rule setup;
   is_drawn = is_drawn setup;
   index = next_index;
-  open_order = λ v. number_of v.order;
+  open_order = λ v. open_order_number v.order;
   text = text setup;
   credit = λ v. v.balance;
   spelled = spelled;

@@ -16,7 +16,7 @@ use Rattle.gd_base.specs.Histories.Conditions.{lock, flag_at}
 use Rattle.gd_base.specs.Histories.Credit.{wager}
 use Rattle.gd_base.specs.Histories.Numbers.{door_place, tilt_place}
 use Rattle.gd_base.specs.Histories.Rounds.{round_of, round_stage}
-use Rattle.gd_base.specs.Games.Stage.{is_bet, is_phase}
+use Rattle.gd_base.specs.Games.Stage.{is_bet, is_stage}
 use Rattle.gd_base.specs.Histories.View.{View}
 
 abbrev pub refuse_if : Bool → Refusal → Option Refusal
@@ -67,7 +67,7 @@ is_seen v id = list_any (λ r. (r.kind == 1) && (r.id == id)) v.vouchers
 -- a choice asks for an open play in the right stage
 abbrev pub is_at : Setup → StageOpen → Option PlayRecord → Bool
 is_at setup phase None = false
-is_at setup phase (Some p) = is_phase (round_stage setup (round_of p)).phase phase
+is_at setup phase (Some p) = is_stage (round_stage setup (round_of p)).phase phase
 
 abbrev pub choice_refusals : Setup → View → StageOpen → Bool → List (Option Refusal)
 choice_refusals setup v phase is_good =

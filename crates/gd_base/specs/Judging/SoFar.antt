@@ -19,7 +19,7 @@ use Rattle.gd_base.specs.Payloads.Bytes.{payload_of}
 use Rattle.gd_base.specs.Payloads.Reading.{number_at, sixteen_at, kept_read, handpay_read, open_read}
 use Rattle.gd_base.specs.Judging.Rule.{rule}
 use Rattle.gd_base.specs.Payloads.Spelled.{Spelled, Shows, Unreadable}
-use Rattle.gd_base.specs.Payloads.ViewRules.{is_possible, is_possible_under, open_is}
+use Rattle.gd_base.specs.Payloads.ViewRules.{is_possible, is_possible_under, is_open_as}
 use Rattle.gd_base.specs.Judging.Product.{machine, same_numbers}
 use Rattle.gd_base.specs.Histories.View.{View}
 use Rattle.gd_base.specs.Histories.ViewOf.{with_entry, empty_view}
@@ -83,14 +83,14 @@ view_at payload =
     (handpay_read HANDPAY_AT payload) (all_kept payload)
 
 -- the view keeps the rules of a view, also those that name the setup, and its play is one that is built
-abbrev pub is_whole_so_far : Setup → View → Bool
-is_whole_so_far setup v = is_possible v && is_possible_under setup v && open_is is_plain v.play
+abbrev pub keeps_rules_so_far : Setup → View → Bool
+keeps_rules_so_far setup v = is_possible v && is_possible_under setup v && is_open_as is_plain v.play
 
 -- A payload spells the view that is read from it, where it is the payload of that view and the view keeps these rules. So
 -- a byte that isn't zero in a place that isn't built leaves it unreadable.
 unfoldable pub spelled_so_far : Setup → List ℕ → Spelled View
 spelled_so_far setup payload =
-    if same_numbers (payload_of (view_at payload)) payload && is_whole_so_far setup (view_at payload) then Shows (view_at payload) else Unreadable
+    if same_numbers (payload_of (view_at payload)) payload && keeps_rules_so_far setup (view_at payload) then Shows (view_at payload) else Unreadable
 
 abbrev pub machine_so_far : Setup → Machine View
 machine_so_far setup = record (machine setup no_digest (spelled_so_far setup)) {

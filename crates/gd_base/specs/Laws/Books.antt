@@ -2,12 +2,12 @@
 use Rattle.std.specs.Prelude.{◌≡◌, ℕ, ◌+◌, IsTrue, List, []}
 use Rattle.gd_base.specs.declared.meter.Meter.{Meter}
 use Rattle.gd_base.specs.declared.setup.Setup.{Setup}
-use Rattle.gd_base.specs.Histories.Credit.{balance, ordered}
+use Rattle.gd_base.specs.Histories.Credit.{balance, ordered_amount}
 use Rattle.gd_base.specs.Histories.Entry.{Entry}
 use Rattle.gd_base.specs.Histories.History.{Origin}
 use Rattle.gd_base.specs.Judging.Legal.{IsLegal, view_over}
 use Rattle.gd_base.specs.Judging.Machine.{Blocks}
-use Rattle.gd_base.specs.Histories.Meters.{held, meter}
+use Rattle.gd_base.specs.Histories.Meters.{held_amount, meter}
 use Rattle.gd_base.specs.Payloads.Spelled.{Spelled}
 use Rattle.gd_base.specs.Payloads.ViewRules.{is_possible, is_possible_under, is_coins, is_small_order, income, outgo}
 use Rattle.gd_base.specs.Judging.Product.{machine}
@@ -17,7 +17,7 @@ use Rattle.gd_base.specs.Histories.ViewOf.{from_view, IsItself}
 -- what there is, was wagered and was paid out is what came in and was won, by whole totals
 abbrev pub Balances : Origin → List Entry → Type 0
 Balances o past =
-    balance o past + ordered o past + held o past + meter o Meter.Wagered past + meter o Meter.VoucherOut past + meter o Meter.CoinOut past
+    balance o past + ordered_amount o past + held_amount o past + meter o Meter.Wagered past + meter o Meter.VoucherOut past + meter o Meter.CoinOut past
     + meter o Meter.HandWin past + meter o Meter.HandCancel past
     ≡ meter o Meter.BillIn past + meter o Meter.CoinIn past + meter o Meter.VoucherIn past + meter o Meter.Won past
 

@@ -6,9 +6,9 @@ use Rattle.std.proofs.Math.Nat.{mod-lt, zero-lt-suc, add_comm}
 use Rattle.std.proofs.lemmas.Bool.{lt-ltb}
 use Rattle.std.proofs.lemmas.Nat.{mul-add-lt}
 use Rattle.rand_chacha.specs.Block.{block_word}
-use Rattle.gd_base.specs.Outside.KeyStream.{stream_word, seeded_word, seeded}
+use Rattle.gd_base.specs.Outside.KeyStream.{stream_word, seeded_word, seeded_block}
 use Rattle.gd_base.specs.Judging.Machine.{Blocks}
-use Rattle.gd_base.specs.Outside.InMemory.{listed}
+use Rattle.gd_base.specs.Outside.InMemory.{listed_block}
 use Rattle.gd_base.specs.Setups.Tables.{numbers}
 use Rattle.gd_base.specs.Judging.Product.{both_hold}
 
@@ -30,7 +30,7 @@ in_lap : (is_first : Bool) (blocks : List (List ℕ)) (i : ℕ) → AreListed bl
 in_lap true blocks i are = are i
 in_lap false blocks i are = (refl, refl)
 
-pub listed_are : (blocks : List (List ℕ)) → AreListed blocks → AreBlocks (listed blocks)
+pub listed_are : (blocks : List (List ℕ)) → AreListed blocks → AreBlocks (listed_block blocks)
 listed_are blocks are lap index = in_lap (lap == 0) blocks index are
 
 -- ================ blocks of a seed
@@ -49,5 +49,5 @@ words_small : (word : ℕ → ℕ) → ((i : ℕ) → word i < 2 ^ 64) → (ns :
 words_small word small [] = refl
 words_small word small (n ∷ ns) = both_hold (nat_lt (word n) (2 ^ 64)) (list_all (λ w. nat_lt w (2 ^ 64)) (map word ns)) (lt-ltb (word n) (2 ^ 64) (small n)) (words_small word small ns)
 
-pub seeded_are : (seed : ℕ) → AreBlocks (seeded seed)
+pub seeded_are : (seed : ℕ) → AreBlocks (seeded_block seed)
 seeded_are seed lap index = (refl, words_small (seeded_word seed lap index) (word_small seed lap index) (numbers 0 16))

@@ -17,5 +17,5 @@ abbrev pub seeded_word : ℕ → ℕ → ℕ → ℕ → ℕ
 seeded_word seed lap index i = stream_word seed lap (32 * index + 2 * i) + stream_word seed lap (32 * index + 2 * i + 1) * 2 ^ 32
 
 -- the sixteen words of a lap and an index
-abbrev pub seeded : ℕ → ℕ → ℕ → List ℕ
-seeded seed lap index = map (seeded_word seed lap index) (numbers 0 16)
+abbrev pub seeded_block : ℕ → ℕ → ℕ → List ℕ
+seeded_block seed lap index = map (seeded_word seed lap index) (numbers 0 16)

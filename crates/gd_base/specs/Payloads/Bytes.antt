@@ -1,4 +1,4 @@
--- How a payload spells a view, in the draft layout: the fields in a row, each part filled up with zeros.
+-- How a payload spells a view, in the draft layout: the fields in a row, each part filled_part up with zeros.
 use Rattle.std.specs.Prelude.{ℕ, ◌+◌, ◌-◌, ◌*◌, Bool, if◌then◌else◌, List, [], ◌∷◌, ◌++◌, length, replicate, flat_map, Option, Some, None}
 use Rattle.std.specs.Int.{w16, w32, w64, to_be_bytes}
 use Rattle.gd_base.specs.declared.game.Game.{Game}
@@ -11,6 +11,7 @@ use Rattle.gd_base.specs.declared.payout.Handpay.{Handpay}
 use Rattle.gd_base.specs.declared.payout.Order.{Order}
 use Rattle.gd_base.specs.declared.play.PlayRecord.{PlayRecord}
 use Rattle.gd_base.specs.declared.records.VoucherRecord.{VoucherRecord}
+use Rattle.gd_base.specs.Histories.Credit.{order_amount}
 use Rattle.gd_base.specs.Histories.Numbers.{game_number, kind_number, refusal_condition, refusal_number}
 use Rattle.gd_base.specs.Histories.View.{View}
 
@@ -23,9 +24,9 @@ four n = to_be_bytes w32 n
 abbrev pub eight : ℕ → List ℕ
 eight n = to_be_bytes w64 n
 
--- bytes filled up with zeros
-abbrev pub filled : ℕ → List ℕ → List ℕ
-filled size bytes = bytes ++ replicate (size - length bytes) 0
+-- bytes filled_part up with zeros
+abbrev pub filled_part : ℕ → List ℕ → List ℕ
+filled_part size bytes = bytes ++ replicate (size - length bytes) 0
 
 -- flags as the bits of a byte, the first being bit 0
 abbrev pub flags : List Bool → ℕ
@@ -84,13 +85,9 @@ abbrev pub kind_code : Option Order → ℕ
 kind_code None = 0
 kind_code (Some o) = kind_number o.kind
 
-abbrev pub left_of : Option Order → ℕ
-left_of None = 0
-left_of (Some o) = o.amount
-
 -- the number of an open order is the number of orders so far
 abbrev pub order_bytes : ℕ → Option Order → List ℕ
-order_bytes orders order = kind_code order ∷ 0 ∷ 0 ∷ 0 ∷ eight orders ++ eight (left_of order)
+order_bytes orders order = kind_code order ∷ 0 ∷ 0 ∷ 0 ∷ eight orders ++ eight (order_amount order)
 
 abbrev pub open_bytes : Option PlayRecord → List ℕ
 open_bytes None = []
@@ -107,6 +104,6 @@ head_bytes v =
 -- the head, the open play, and the four lists in places of their own
 abbrev pub payload_of : View → List ℕ
 payload_of v =
-    filled HEAD_LEN (head_bytes v) ++ filled OPEN_PLAY_LEN (open_bytes v.play)
-    ++ filled PLAYS_LEN (flat_map play_bytes v.plays) ++ filled EVENTS_LEN (flat_map event_bytes v.events)
-    ++ filled BILLS_LEN (flat_map bill_bytes v.bills) ++ filled (VOUCHERS_LEN + REST_LEN) (flat_map voucher_bytes v.vouchers)
+    filled_part HEAD_LEN (head_bytes v) ++ filled_part OPEN_PLAY_LEN (open_bytes v.play)
+    ++ filled_part PLAYS_LEN (flat_map play_bytes v.plays) ++ filled_part EVENTS_LEN (flat_map event_bytes v.events)
+    ++ filled_part BILLS_LEN (flat_map bill_bytes v.bills) ++ filled_part (VOUCHERS_LEN + REST_LEN) (flat_map voucher_bytes v.vouchers)

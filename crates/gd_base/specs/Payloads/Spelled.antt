@@ -12,10 +12,10 @@ pub data Spelled (V : Type 0) : Type 0 where
   Unreadable : Spelled V
 
 -- what a core answers that loads it
-abbrev pub loaded : {V : Type 0} → Spelled V → Loaded
-loaded (Shows v) = Loaded.Read
-loaded (Foreign kept) = Loaded.Differs kept
-loaded Unreadable = Loaded.Unreadable
+abbrev pub load_answer : {V : Type 0} → Spelled V → Loaded
+load_answer (Shows v) = Loaded.Read
+load_answer (Foreign kept) = Loaded.Differs kept
+load_answer Unreadable = Loaded.Unreadable
 
 -- ================ what is spelled is data, where views are
 

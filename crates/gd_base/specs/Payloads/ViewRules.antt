@@ -14,18 +14,15 @@ use Rattle.gd_base.specs.declared.play.PlayRecord.{PlayRecord}
 use Rattle.gd_base.specs.declared.play.StageOpen.{StageOpen}
 use Rattle.gd_base.specs.declared.records.VoucherRecord.{VoucherRecord}
 use Rattle.gd_base.specs.declared.setup.Setup.{Setup}
-use Rattle.gd_base.specs.Histories.Credit.{wager}
-use Rattle.gd_base.specs.Payloads.Bytes.{payload_of, left_of}
+use Rattle.gd_base.specs.Histories.Credit.{order_amount, wager}
+use Rattle.gd_base.specs.Histories.Meters.{handpay_amount}
+use Rattle.gd_base.specs.Payloads.Bytes.{payload_of}
 use Rattle.gd_base.specs.Histories.Rounds.{choices_of}
-use Rattle.gd_base.specs.Games.Stage.{stage, is_bet, is_phase, are_choices}
+use Rattle.gd_base.specs.Games.Stage.{stage, is_bet, is_stage, are_choices}
 use Rattle.gd_base.specs.Payloads.Spelled.{Spelled, Shows, Foreign, Unreadable}
 use Rattle.gd_base.specs.Histories.View.{View}
 
 -- ================ the sums
-
-abbrev pub held_in : Option Handpay → ℕ
-held_in None = 0
-held_in (Some h) = h.amount
 
 abbrev pub total : View → ℕ → ℕ
 total v m = slice_index v.totals m
@@ -36,7 +33,7 @@ income v = total v 0 + total v 1 + total v 2 + total v 4
 
 -- what there is, and what was wagered and paid out
 abbrev pub outgo : View → ℕ
-outgo v = v.balance + left_of v.order + held_in v.handpay + total v 3 + total v 5 + total v 6 + total v 7 + total v 8
+outgo v = v.balance + order_amount v.order + handpay_amount v.handpay + total v 3 + total v 5 + total v 6 + total v 7 + total v 8
 
 -- nothing is lost or made
 abbrev pub is_balanced : View → Bool
@@ -52,8 +49,8 @@ abbrev pub is_flagged_last : ℕ × Option Reply → Bool
 is_flagged_last k = if k.0 == 0 then is_none k.1 else is_some k.1
 
 -- the last numbers add up to the count, and each but 0 has a reply
-abbrev pub are_kept : View → Bool
-are_kept v = (sum (map (λ k. k.0) v.kept) == v.count) && list_all is_flagged_last v.kept
+abbrev pub are_numbered : View → Bool
+are_numbered v = (sum (map (λ k. k.0) v.kept) == v.count) && list_all is_flagged_last v.kept
 
 -- places fall from the newest record on, between 1 and a limit
 abbrev pub fall_from : ℕ → List ℕ → Bool
@@ -124,9 +121,9 @@ abbrev pub is_one_open : View → Bool
 is_one_open v =
     not_both (is_some v.order) (is_some v.handpay) && not_both (is_some v.order) (is_some v.play) && not_both (is_some v.handpay) (is_some v.play)
 
-abbrev pub open_is : (PlayRecord → Bool) → Option PlayRecord → Bool
-open_is test None = true
-open_is test (Some p) = test p
+abbrev pub is_open_as : (PlayRecord → Bool) → Option PlayRecord → Bool
+is_open_as test None = true
+is_open_as test (Some p) = test p
 
 -- an open play has a place among so many entries, and no balance after it yet
 abbrev pub is_placed : ℕ → PlayRecord → Bool
@@ -139,24 +136,24 @@ is_open_record v p = is_placed v.count p
 abbrev pub view_rules : View → List Bool
 view_rules v =
     (length v.digest == 32) ∷ list_all (λ b. nat_lt b 256) v.digest ∷ (length v.totals == 16) ∷ (length v.doors == 4) ∷ (length v.tilts == 6) ∷ (length v.kept == 9)
-    ∷ nat_le v.count MOST_ENTRIES ∷ are_kept v ∷ is_balanced v ∷ list_all (λ n. nat_le n v.count) (drop 9 v.totals) ∷ nat_le v.orders v.count
+    ∷ nat_le v.count MOST_ENTRIES ∷ are_numbered v ∷ is_balanced v ∷ list_all (λ n. nat_le n v.count) (drop 9 v.totals) ∷ nat_le v.orders v.count
     ∷ are_places v ∷ are_short v ∷ is_small_order v.order ∷ has_number v.orders v.order ∷ is_some_handpay v.handpay ∷ is_one_open v
     ∷ list_all is_event v.events ∷ list_all is_bill_record v.bills ∷ list_all is_voucher v.vouchers ∷ list_all is_play_record v.plays
-    ∷ open_is is_play_record v.play ∷ open_is (is_open_record v) v.play ∷ []
+    ∷ is_open_as is_play_record v.play ∷ is_open_as (is_open_record v) v.play ∷ []
 
 abbrev pub is_possible : View → Bool
 is_possible v = all_true (view_rules v)
 
 -- ================ rules that name the setup
 
-abbrev pub is_whole : Setup → OrderKind → ℕ → Bool
-is_whole setup OrderKind.Printer amount = true
-is_whole setup OrderKind.Hopper amount = amount % setup.coin == 0
+abbrev pub is_whole_coins : Setup → OrderKind → ℕ → Bool
+is_whole_coins setup OrderKind.Printer amount = true
+is_whole_coins setup OrderKind.Hopper amount = amount % setup.coin == 0
 
 -- an order to the hopper is a number of coins
 abbrev pub is_coins : Setup → Option Order → Bool
 is_coins setup None = true
-is_coins setup (Some o) = is_whole setup o.kind o.amount
+is_coins setup (Some o) = is_whole_coins setup o.kind o.amount
 
 -- the wager of the bet, choices in order, and the win of these choices
 abbrev pub is_played : Setup → PlayRecord → Bool
@@ -165,7 +162,7 @@ is_played setup p =
     && (p.win == (stage setup p.game p.bet p.words (choices_of p)).win)
 
 abbrev pub is_in : Setup → PlayRecord → StageOpen → Bool
-is_in setup p phase = is_phase (stage setup p.game p.bet p.words (choices_of p)).phase phase
+is_in setup p phase = is_stage (stage setup p.game p.bet p.words (choices_of p)).phase phase
 
 -- a finished play has ended, or was taken in its gamble stage
 abbrev pub is_finished : Setup → PlayRecord → Bool
@@ -173,8 +170,8 @@ is_finished setup p = is_in setup p StageOpen.Ended || is_in setup p StageOpen.G
 
 abbrev pub setup_rules : Setup → View → List Bool
 setup_rules setup v =
-    is_coins setup v.order ∷ list_all (is_played setup) v.plays ∷ open_is (is_played setup) v.play
-    ∷ list_all (is_finished setup) v.plays ∷ open_is (λ p. not (is_in setup p StageOpen.Ended)) v.play ∷ []
+    is_coins setup v.order ∷ list_all (is_played setup) v.plays ∷ is_open_as (is_played setup) v.play
+    ∷ list_all (is_finished setup) v.plays ∷ is_open_as (λ p. not (is_in setup p StageOpen.Ended)) v.play ∷ []
 
 abbrev pub is_possible_under : Setup → View → Bool
 is_possible_under setup v = all_true (setup_rules setup v)

@@ -86,11 +86,11 @@ rank_name Rank.TwoPair = codes "two-pair"
 rank_name Rank.Jacks = codes "jacks"
 rank_name Rank.Nothing = codes "nothing"
 
-abbrev pub phase_name : StageOpen → List ℕ
-phase_name StageOpen.Pick = codes "pick"
-phase_name StageOpen.Hold = codes "hold"
-phase_name StageOpen.Gamble = codes "gamble"
-phase_name StageOpen.Ended = codes "ended"
+abbrev pub stage_name : StageOpen → List ℕ
+stage_name StageOpen.Pick = codes "pick"
+stage_name StageOpen.Hold = codes "hold"
+stage_name StageOpen.Gamble = codes "gamble"
+stage_name StageOpen.Ended = codes "ended"
 
 -- as `Ac`: the ace of clubs
 abbrev pub card_name : ℕ → List ℕ

@@ -1,4 +1,4 @@
--- The texts that are shown of a view.
+-- The texts that are shown_total of a view.
 use Rattle.std.specs.Prelude.{ℕ, zero, suc, ◌+◌, ◌-◌, ◌*◌, ◌==◌, ◌/◌, if◌then◌else◌, List, [], ◌∷◌, ◌++◌, length, map, replicate, codes, decimal, get_or, flat_map, Option, Some, None, unwrap_or}
 use Rattle.gd_base.specs.declared.game.Colour.{Colour}
 use Rattle.gd_base.specs.declared.condition.Condition.{Condition}
@@ -15,24 +15,24 @@ use Rattle.gd_base.specs.declared.records.VoucherRecord.{VoucherRecord}
 use Rattle.gd_base.specs.declared.setup.Setup.{Setup}
 use Rattle.gd_base.specs.Games.Chance.{window, prize, hand, final_hand, rank, has_bit}
 use Rattle.gd_base.specs.Histories.Conditions.{doors, lock, tilts}
-use Rattle.gd_base.specs.Histories.Meters.{meters, shown}
-use Rattle.gd_base.specs.Texts.Names.{meter_name, condition_name, door_name, tilt_name, game_name, colour_name, rank_name, phase_name, card_name}
+use Rattle.gd_base.specs.Histories.Meters.{meters, shown_total}
+use Rattle.gd_base.specs.Texts.Names.{meter_name, condition_name, door_name, tilt_name, game_name, colour_name, rank_name, stage_name, card_name}
 use Rattle.gd_base.specs.Histories.Numbers.{condition_number}
 use Rattle.gd_base.specs.Histories.Rounds.{choices_of}
 use Rattle.gd_base.specs.Games.Stage.{base_win, gamble_card, win_after, stage}
 use Rattle.gd_base.specs.Histories.View.{View}
 
 -- each text behind a space
-abbrev pub spaced : List (List ℕ) → List ℕ
-spaced texts = flat_map (λ text. codes " " ++ text) texts
+abbrev pub spaced_texts : List (List ℕ) → List ℕ
+spaced_texts texts = flat_map (λ text. codes " " ++ text) texts
 
-abbrev pub padded : ℕ → List ℕ → List ℕ
-padded width digits = replicate (width - length digits) 48 ++ digits
+abbrev pub padded_digits : ℕ → List ℕ → List ℕ
+padded_digits width digits = replicate (width - length digits) 48 ++ digits
 
 -- ================ meters, order, state
 
 abbrev pub meter_line : Meter → ℕ → List ℕ
-meter_line m total = meter_name m ++ codes " " ++ padded 10 (decimal (shown total)) ++ codes "\n"
+meter_line m total = meter_name m ++ codes " " ++ padded_digits 10 (decimal (shown_total total)) ++ codes "\n"
 
 abbrev pub meter_lines : List Meter → List ℕ → List ℕ
 meter_lines [] totals = []
@@ -74,12 +74,12 @@ bits mask i (suc n) = (if has_bit mask i then 49 else 48) ∷ bits mask (i + 1) 
 abbrev pub held_line : PlayRecord → Option ℕ → List ℕ
 held_line p None = []
 held_line p (Some mask) =
-    codes "held " ++ bits mask 0 5 ++ codes " final" ++ spaced (map card_name (final_hand p.words mask))
+    codes "held " ++ bits mask 0 5 ++ codes " final" ++ spaced_texts (map card_name (final_hand p.words mask))
     ++ codes " " ++ rank_name (rank (final_hand p.words mask)) ++ codes "\n"
 
 abbrev pub game_lines : Setup → PlayRecord → Game → List ℕ
-game_lines setup p Game.Reels = codes "window" ++ spaced (window setup p.words) ++ codes "\n" ++ pick_line setup p p.choice
-game_lines setup p Game.Poker = codes "dealt" ++ spaced (map card_name (hand p.words)) ++ codes "\n" ++ held_line p p.choice
+game_lines setup p Game.Reels = codes "window" ++ spaced_texts (window setup p.words) ++ codes "\n" ++ pick_line setup p p.choice
+game_lines setup p Game.Poker = codes "dealt" ++ spaced_texts (map card_name (hand p.words)) ++ codes "\n" ++ held_line p p.choice
 
 -- the colour chosen in turn t
 abbrev pub turn_colour : ℕ → ℕ → Colour
@@ -107,7 +107,7 @@ abbrev pub play_body : Setup → PlayRecord → List ℕ
 play_body setup p = play_head p ++ game_lines setup p p.game ++ turn_lines setup p p.turns
 
 abbrev pub stage_line : Stage → List ℕ
-stage_line s = codes "stage " ++ phase_name s.phase ++ codes " win " ++ decimal s.win ++ codes "\n"
+stage_line s = codes "stage " ++ stage_name s.phase ++ codes " win " ++ decimal s.win ++ codes "\n"
 
 abbrev pub open_lines : Setup → PlayRecord → List ℕ
 open_lines setup p = play_body setup p ++ stage_line (stage setup p.game p.bet p.words (choices_of p))
@@ -140,9 +140,9 @@ door_text n = get_or (map door_name doors) (n - 1) []
 abbrev pub tilt_text : ℕ → List ℕ
 tilt_text n = get_or (map tilt_name tilts) (n - condition_number Condition.BillJam) []
 
--- what happened, by its code and detail
-abbrev pub happened : ℕ → ℕ → List ℕ
-happened code detail =
+-- what event_phrase, by its code and detail
+abbrev pub event_phrase : ℕ → ℕ → List ℕ
+event_phrase code detail =
     if code == 1 then codes "start"
     else if code == 2 then codes "door-opened " ++ door_text detail
     else if code == 3 then codes "door-shut " ++ door_text detail
@@ -153,7 +153,7 @@ happened code detail =
     else codes "handpay-done " ++ decimal detail
 
 abbrev pub event_line : EventRecord → List ℕ
-event_line e = decimal e.place ++ codes " " ++ happened e.code e.detail ++ codes "\n"
+event_line e = decimal e.place ++ codes " " ++ event_phrase e.code e.detail ++ codes "\n"
 
 abbrev pub bill_line : BillRecord → List ℕ
 bill_line b = decimal b.place ++ codes " " ++ decimal b.value ++ codes "\n"

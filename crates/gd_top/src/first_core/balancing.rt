@@ -2,14 +2,15 @@
 
 ghost use Rattle.std.specs.Prelude.{◌≡◌, ◌+◌, ◌<◌, ◌^◌, Option, slice_index};
 ghost use Rattle.gd_base.specs.declared.play.PlayRecord.{PlayRecord as PlayData};
-ghost use Rattle.gd_base.specs.Payloads.ViewRules.{held_in, income as income_of, outgo as outgo_of, is_balanced};
+ghost use Rattle.gd_base.specs.Histories.Meters.{handpay_amount};
+ghost use Rattle.gd_base.specs.Payloads.ViewRules.{income as income_of, outgo as outgo_of, is_balanced};
 ghost use Rattle.gd_top.specs.Books.{view_of};
 
 use super::books::Books;
 
 /// The amount of an open handpay.
 fn held(books: &Books) -> u128
-    ensures amount { result ≡ held_in books.now.handpay }
+    ensures amount { result ≡ handpay_amount books.now.handpay }
     ensures most { result < 2 ^ 64 }
 {
     match &books.handpay {

@@ -4,8 +4,8 @@ ghost use Rattle.std.specs.Prelude.{◌≡◌, ◌&&◌, IsTrue, Option, length,
 ghost use Rattle.std.specs.Bool.{OnTrue};
 ghost use Rattle.gd_base.specs.declared.play.PlayRecord.{PlayRecord as PlayData};
 ghost use Rattle.gd_base.specs.Payloads.Bytes.{payload_of};
-ghost use Rattle.gd_base.specs.Judging.SoFar.{is_whole_so_far, spelled_so_far};
-ghost use Rattle.gd_base.specs.Payloads.ViewRules.{is_balanced, is_choice_value, open_is};
+ghost use Rattle.gd_base.specs.Judging.SoFar.{keeps_rules_so_far, spelled_so_far};
+ghost use Rattle.gd_base.specs.Payloads.ViewRules.{is_balanced, is_choice_value, is_open_as};
 ghost use Rattle.gd_base.specs.Judging.Product.{same_numbers};
 ghost use Rattle.gd_top.specs.Books.{view_of, spelled_by};
 ghost use Rattle.gd_top.specs.Checks.{are_counts, is_one_of, is_open_at};
@@ -30,7 +30,7 @@ fn is_one_open(books: &Books, play: &Option<PlayRecord>) -> bool
 
 /// Whether no play is open, or one that keeps the rules.
 fn may_be_open(setup: &Setup, count: u64, play: &Option<PlayRecord>) -> bool
-    ensures { result ≡ open_is (is_open_at setup.now count) play.now }
+    ensures { result ≡ is_open_as (is_open_at setup.now count) play.now }
 {
     match play {
         None => true,
@@ -47,7 +47,7 @@ fn are_sound(books: &Books) -> bool
 
 /// Whether what is open is in order.
 fn are_open(setup: &Setup, books: &Books, play: &Option<PlayRecord>) -> bool
-    ensures { result ≡ (is_one_of books.now.handpay play.now && open_is (is_open_at setup.now books.now.count) play.now) }
+    ensures { result ≡ (is_one_of books.now.handpay play.now && is_open_as (is_open_at setup.now books.now.count) play.now) }
 {
     is_one_open(books, play) && may_be_open(setup, books.count, play)
 }
@@ -60,7 +60,7 @@ fn lists_fit(books: &Books)
 
 /// Whether books and an open play are a view that keeps the rules.
 fn are_whole(setup: &Setup, books: &Books, play: &Option<PlayRecord>) -> bool
-    ensures whole { result ≡ is_whole_so_far setup.now (view_of books.now play.now) }
+    ensures whole { result ≡ keeps_rules_so_far setup.now (view_of books.now play.now) }
     ensures choice { OnTrue result (IfSome play.now (λ p. IsTrue (is_choice_value p.game p.choice))) }
 {
     lists_fit(books);
@@ -90,7 +90,7 @@ fn is_payload_of(books: &Books, play: &Option<PlayRecord>, payload: &[u8]) -> bo
 pub(crate) fn read_payload(setup: &Setup, payload: &[u8]) -> Option<(Books, Option<PlayRecord>)>
     requires { length payload.now ≡ PAYLOAD_LEN }
     ensures spelled { spelled_by result ≡ spelled_so_far setup.now payload.now }
-    ensures whole { IfSome result (λ read. IsTrue (is_whole_so_far setup.now (view_of read.0 read.1))) }
+    ensures whole { IfSome result (λ read. IsTrue (keeps_rules_so_far setup.now (view_of read.0 read.1))) }
 {
     let books = read_books(payload);
     let play = read_play(payload);

@@ -1,7 +1,7 @@
 //! The payload of a view so far, written.
 
 ghost use Rattle.std.specs.Prelude.{◌≡◌, ◌≤◌, ◌+◌, ◌*◌, [], ◌∷◌, ◌++◌, length, replicate, flat_map, None, IsTrue, IfSome, option_copied};
-ghost use Rattle.gd_base.specs.Payloads.Bytes.{four, eight, kept_bytes, reply_kind, reply_refusal, reply_condition, handpay_bytes, choice_code, play_bytes, open_bytes, head_bytes, filled, payload_of};
+ghost use Rattle.gd_base.specs.Payloads.Bytes.{four, eight, kept_bytes, reply_kind, reply_refusal, reply_condition, handpay_bytes, choice_code, play_bytes, open_bytes, head_bytes, filled_part, payload_of};
 ghost use Rattle.gd_base.specs.Histories.Numbers.{refusal_number, refusal_condition, condition_number, game_number};
 ghost use Rattle.gd_base.specs.Payloads.ViewRules.{is_choice_value};
 ghost use Rattle.gd_top.specs.Books.{view_of, put_at};
@@ -176,7 +176,7 @@ fn put_kept(into: &mut [u8], place: usize, kept: &[(u64, Option<Reply>)])
 /// Writes the head of a payload over zeros.
 fn write_head(books: &Books, head: &mut [u8])
     requires { head.old ≡ replicate HEAD_LEN 0 }
-    ensures { head.new ≡ filled HEAD_LEN (head_bytes (view_of books.now None)) }
+    ensures { head.new ≡ filled_part HEAD_LEN (head_bytes (view_of books.now None)) }
 {
     put_number(head, COUNT_AT, books.count);
     put_number(head, BALANCE_AT, books.balance);

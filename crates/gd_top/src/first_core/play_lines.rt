@@ -6,9 +6,9 @@ ghost use Rattle.arrayvec.specs.ArrayString.{array_string_len};
 ghost use Rattle.gd_base.specs.declared.game.Game.{Game};
 ghost use Rattle.gd_base.specs.Histories.Rounds.{choices_of};
 ghost use Rattle.gd_base.specs.Setups.SetupRules.{are_strips, is_letter};
-ghost use Rattle.gd_base.specs.Payloads.ViewRules.{is_choice_value, open_is};
+ghost use Rattle.gd_base.specs.Payloads.ViewRules.{is_choice_value, is_open_as};
 ghost use Rattle.gd_base.specs.Games.Stage.{stage};
-ghost use Rattle.gd_base.specs.Texts.OfViews.{lines_of_open, open_lines, pick_line, play_head, spaced, stage_line};
+ghost use Rattle.gd_base.specs.Texts.OfViews.{lines_of_open, open_lines, pick_line, play_head, spaced_texts, stage_line};
 ghost use Rattle.gd_top.specs.Checks.{is_in_order};
 
 use super::reels_table::reels_stage;
@@ -61,7 +61,7 @@ fn push_row(text: &mut Text, row: &[u8; 5])
 fn push_window(text: &mut Text, shown: &Window)
     requires letters { IsTrue (are_strips shown.now.rows) }
     requires room { array_string_len text.old + 25 ≤ TEXT_LEN }
-    ensures bytes { text.new.bytes ≡ text.old.bytes ++ (codes "window" ++ spaced shown.now.rows ++ codes "\n") }
+    ensures bytes { text.new.bytes ≡ text.old.bytes ++ (codes "window" ++ spaced_texts shown.now.rows ++ codes "\n") }
     ensures room { array_string_len text.new ≤ array_string_len text.old + 25 }
 {
     text.push_str("window");
@@ -129,7 +129,7 @@ fn push_open(text: &mut Text, setup: &Setup, play: &PlayRecord)
 
 /// Appends the lines of the open play, or another text where none is open. At most 227 bytes and that text.
 pub(crate) fn push_play(text: &mut Text, setup: &Setup, play: Option<&PlayRecord>, otherwise: &str)
-    requires order { IsTrue (open_is (is_in_order setup.now) (option_copied play)) }
+    requires order { IsTrue (is_open_as (is_in_order setup.now) (option_copied play)) }
     requires room { array_string_len text.old + 227 + length otherwise.now ≤ TEXT_LEN }
     ensures bytes { text.new.bytes ≡ text.old.bytes ++ lines_of_open setup.now otherwise.now (option_copied play.entry) }
     ensures room { array_string_len text.new ≤ array_string_len text.old + 227 + length otherwise.now }

@@ -3,8 +3,8 @@
 ghost use Rattle.std.specs.Prelude.{◌≡◌, ◌≤◌, ◌+◌, ◌++◌, IsTrue, None, codes, option_copied};
 ghost use Rattle.arrayvec.specs.ArrayString.{array_string_len};
 ghost use Rattle.gd_base.specs.Histories.Conditions.{lock};
-ghost use Rattle.gd_base.specs.Judging.SoFar.{is_whole_so_far};
-ghost use Rattle.gd_base.specs.Payloads.ViewRules.{open_is};
+ghost use Rattle.gd_base.specs.Judging.SoFar.{keeps_rules_so_far};
+ghost use Rattle.gd_base.specs.Payloads.ViewRules.{is_open_as};
 ghost use Rattle.gd_base.specs.Texts.OfViews.{condition_text, handpay_text, state_text};
 ghost use Rattle.gd_base.specs.Judging.Product.{text};
 ghost use Rattle.gd_top.specs.Books.{view_of};
@@ -45,7 +45,7 @@ fn push_handpay(text: &mut Text, handpay: &Option<Handpay>)
 
 /// Appends the text of the state. At most 330 bytes.
 fn push_state(text: &mut Text, setup: &Setup, books: &Books, play: Option<&PlayRecord>)
-    requires order { IsTrue (open_is (is_in_order setup.now) (option_copied play)) }
+    requires order { IsTrue (is_open_as (is_in_order setup.now) (option_copied play)) }
     requires room { array_string_len text.old + 330 ≤ TEXT_LEN }
     ensures bytes { text.new.bytes ≡ text.old.bytes ++ state_text setup.now (view_of books.now (option_copied play.entry)) }
     ensures room { array_string_len text.new ≤ array_string_len text.old + 330 }
@@ -66,7 +66,7 @@ pub(crate) fn show_view(
     what: What,
     into: &mut Text,
 )
-    requires whole { IsTrue (is_whole_so_far setup.now (view_of books.now (option_copied play))) }
+    requires whole { IsTrue (keeps_rules_so_far setup.now (view_of books.now (option_copied play))) }
     ensures { into.new.bytes ≡ text setup.now what (view_of books.now (option_copied play.entry)) }
 {
     into.clear();

@@ -4,7 +4,7 @@ use Rattle.gd_cabinet.proofs.Cutting.{start_failed, repair_failed, all_made}
 use Rattle.gd_cabinet.proofs.Moments.{repair_moments, opening_moments}
 use Rattle.gd_cabinet.proofs.Showing.{loaded_shows, told_maps}
 use Rattle.gd_cabinet.proofs.WholeOpenings.{by_image, started_as, start_made, start_not_made, repair_at_most, both_at_most}
-use Rattle.gd_disk.specs.CutRuns.{IsWhole, RunOf}
+use Rattle.gd_disk.specs.CutRuns.{IsCompleteRun, RunOf}
 use Rattle.gd_store.specs.Repair.{repaired, syncs_of_repair}
 use Rattle.std.proofs.Common.{ℕ, Err}
 use Rattle.gd_cabinet.proofs.opening.open_store.Goals as goal
@@ -78,7 +78,7 @@ returns-in-Ok-clause-run g c =
     let k = syncs_of_repair (repaired c.in-Ready.found) in
     let new = g.D.Disk.state (cabinet_disk c.in-Ok.cabinet) in
     let show = loaded_shows M c.sequence.result (store_sequence store) c.payload.result.now (store_payload store) c.load_at.result v c.sequence.ensures.value c.payload.ensures.value c.load_at.ensures.answer c.in-Read.is c.load_at.ensures.view in
-    by_image M c.in-Ready.found (store_sequence store) (store_payload store) v old.seen (λ (n : ℕ). IsWhole n old new) c.in-Ready.ensures.ready show (start_made M N k v old mid new c.load_at.ensures.same c.in-Ready.ensures.answer_run c.in-Ok.ensures.run)
+    by_image M c.in-Ready.found (store_sequence store) (store_payload store) v old.seen (λ (n : ℕ). IsCompleteRun n old new) c.in-Ready.ensures.ready show (start_made M N k v old mid new c.load_at.ensures.same c.in-Ready.ensures.answer_run c.in-Ok.ensures.run)
 
 pub returns-in-Err-clause-answer_run : goal.returns-in-Err-clause-answer_run
 returns-in-Err-clause-answer_run g c =

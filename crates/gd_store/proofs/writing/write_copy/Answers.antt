@@ -1,6 +1,6 @@
 use Rattle.std.proofs.Common.{◌≡◌, ◌∷◌, ◌∙◌, ℕ, List, length, ap, arith, Option}
 use Rattle.std.proofs.lemmas.Result.{on_ok_weaker}
-use Rattle.gd_disk.specs.Disk.{seen_written}
+use Rattle.gd_disk.specs.Disk.{seen_with_bytes}
 use Rattle.gd_store.proofs.CopyMoments.{seen_over, moments_shutting, moments_copy}
 use Rattle.gd_disk.proofs.WholeRuns.{run_on}
 use Rattle.gd_store.proofs.writing.write_copy.Goals as goal
@@ -12,7 +12,7 @@ pub returns-clause-seen : goal.returns-clause-seen
 returns-clause-seen g c = on_ok_weaker c.write_shut.result
     (λ seen.
     seen
-    ∙ ap (λ (s : Option (List ℕ)). seen_written c.args.at (0xA5 ∷ c.args.body.now) s) c.in_ok-shut.ensures.seen
+    ∙ ap (λ (s : Option (List ℕ)). seen_with_bytes c.args.at (0xA5 ∷ c.args.body.now) s) c.in_ok-shut.ensures.seen
     ∙ seen_over c.args.at c.args.body.now (g.D.Disk.state c.args.disk.now).seen c.args.gate (λ d is. let long : length d ≡ (g.D.Disk.state c.args.disk.now).size = (g.D.Disk.state c.args.disk.now).whole d is in omega (arith, long, c.requires.within)))
     c.write_shut.ensures.seen
 

@@ -1,6 +1,6 @@
 use Rattle.std.proofs.Common.{◌≡◌, ◌∷◌, [], ◌∙◌, ℕ, List, length, ap, arith, Option}
 use Rattle.std.proofs.lemmas.Result.{on_ok_weaker}
-use Rattle.gd_disk.specs.Disk.{seen_written}
+use Rattle.gd_disk.specs.Disk.{seen_with_bytes}
 use Rattle.gd_store.proofs.CopyMoments.{seen_whole, moments_1, moments_2}
 use Rattle.gd_disk.proofs.WholeRuns.{run_on}
 use Rattle.gd_store.proofs.writing.write_shut.Goals as goal
@@ -12,7 +12,7 @@ pub returns-clause-seen : goal.returns-clause-seen
 returns-clause-seen g c = on_ok_weaker c.write_synced-2.result
     (λ opened.
     opened
-    ∙ ap (λ (s : Option (List ℕ)). seen_written c.args.at (0xA5 ∷ []) s) c.in_ok-write_synced.ensures.seen
+    ∙ ap (λ (s : Option (List ℕ)). seen_with_bytes c.args.at (0xA5 ∷ []) s) c.in_ok-write_synced.ensures.seen
     ∙ seen_whole c.args.at c.args.body.now (g.D.Disk.state c.args.disk.now).seen (λ d is. let long : length d ≡ (g.D.Disk.state c.args.disk.now).size = (g.D.Disk.state c.args.disk.now).whole d is in omega (arith, long, c.requires.within)))
     c.write_synced-2.ensures.seen
 

@@ -1,6 +1,6 @@
 use Rattle.std.proofs.Common.{◌∙◌, sym, ◌&&◌, IfSome, IsTrue}
 use Rattle.std.proofs.lemmas.Bool.{OnTrue_from}
-use Rattle.gd_base.specs.Payloads.ViewRules.{is_balanced, is_choice_value, open_is}
+use Rattle.gd_base.specs.Payloads.ViewRules.{is_balanced, is_choice_value, is_open_as}
 use Rattle.gd_top.specs.Books.{view_of}
 use Rattle.gd_top.specs.Checks.{are_counts, is_one_of, is_open_at}
 use Rattle.gd_top.proofs.Checked.{second_of, not_first, whole_is, choice_told}
@@ -11,7 +11,7 @@ returns-then-are_sound-clause-whole c =
     let b = c.args.books.now in
     let setup = c.args.setup.now in
     let play = c.args.play.now in
-    let open_ok = is_one_of b.handpay play && open_is (is_open_at setup b.count) play in
+    let open_ok = is_one_of b.handpay play && is_open_as (is_open_at setup b.count) play in
     c.are_open.ensures
     ∙ second_of (are_counts b && is_balanced (view_of b play)) open_ok (sym (c.are_sound.ensures play) ∙ c.if-are_sound.true)
     ∙ whole_is setup b play c.lists_fit.ensures.totals c.lists_fit.ensures.kept
@@ -22,7 +22,7 @@ returns-else-are_sound-clause-whole c =
     let setup = c.args.setup.now in
     let play = c.args.play.now in
     let sound = are_counts b && is_balanced (view_of b play) in
-    let open_ok = is_one_of b.handpay play && open_is (is_open_at setup b.count) play in
+    let open_ok = is_one_of b.handpay play && is_open_as (is_open_at setup b.count) play in
     c.are_sound.ensures play ∙ not_first sound open_ok (sym (c.are_sound.ensures play) ∙ c.if-are_sound.false)
     ∙ whole_is setup b play c.lists_fit.ensures.totals c.lists_fit.ensures.kept
 

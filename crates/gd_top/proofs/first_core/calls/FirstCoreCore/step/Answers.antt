@@ -7,7 +7,7 @@ use Rattle.gd_base.specs.Histories.Devices.{kept_at}
 use Rattle.gd_base.specs.Judging.Draws.{next_index}
 use Rattle.gd_base.specs.Histories.Entry.{Entry, device_of}
 use Rattle.gd_base.specs.Histories.Numbers.{device_place}
-use Rattle.gd_base.specs.Judging.SoFar.{machine_so_far, is_drawn_so_far, is_whole_so_far}
+use Rattle.gd_base.specs.Judging.SoFar.{machine_so_far, is_drawn_so_far, keeps_rules_so_far}
 use Rattle.gd_base.specs.Histories.Devices.{with_reply}
 use Rattle.gd_base.proofs.AnswerLemmas.Answer.{answer_new}
 use Rattle.gd_play.specs.Words.{machine_phase, machine_play, machine_table}
@@ -40,7 +40,7 @@ invariant_of-self c =
       fit = record {
         table = ap (λ (t : ReelsTable). t.setup) c.act-reply.ensures.table ∙ core.fit.table;
         phase = c.act-reply.ensures.phase;
-        whole = ap (is_whole_so_far core.setup) is
+        whole = ap (keeps_rules_so_far core.setup) is
             ∙ whole_after core.setup core.books play e.number e.event draw reply k c.if-self-ge-MOST_ENTRIES.false c.act-reply.ensures.answer drawn c.draw_fits.ensures;
       };
     }
