@@ -4,7 +4,7 @@ ghost use Rattle.gd_base.specs.declared.step.Numbered.{Numbered};
 ghost use Rattle.gd_base.specs.Laws.Exact.{AnswersExactly};
 ghost use Rattle.gd_base.specs.Judging.Machine.{Machine};
 
-use crate::machine_core::Core;
+use crate::core_trait::Core;
 
 /// For every machine by the views of a core: each of the four answers comes exactly where `specs/Exact` says.
 pub fn exact<C: Core>()

@@ -1,5 +1,5 @@
 use Rattle.gd_base.proofs.ExampleLemmas.Chance.{least_words, windows, hands}
-use Rattle.gd_base.proofs.laws.chance_rows.computed.Goals as goal
+use Rattle.gd_base.proofs.laws.examples.chance.Goals as goal
 
 pub returns-clause-words : goal.returns-clause-words
 returns-clause-words c = least_words

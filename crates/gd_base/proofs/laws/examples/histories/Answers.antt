@@ -1,5 +1,5 @@
 use Rattle.gd_base.proofs.ExampleLemmas.Histories.{one_bill, rolls_over, pick, vouchers, royal_flush, hopper, ace_low, gambles, evening, cancelled}
-use Rattle.gd_base.proofs.laws.history_rows.computed.Goals as goal
+use Rattle.gd_base.proofs.laws.examples.histories.Goals as goal
 
 pub returns-clause-one_bill : goal.returns-clause-one_bill
 returns-clause-one_bill c = one_bill

@@ -1,5 +1,5 @@
 use Rattle.gd_base.proofs.ExampleLemmas.Payloads.{lengths, possible}
-use Rattle.gd_base.proofs.laws.payload_rows.computed.Goals as goal
+use Rattle.gd_base.proofs.laws.examples.payloads.Goals as goal
 
 pub returns-clause-lengths : goal.returns-clause-lengths
 returns-clause-lengths c = lengths

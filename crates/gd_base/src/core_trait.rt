@@ -28,30 +28,30 @@ pub trait Core {
     ghost view: { Self → View };
 
     /// Whether a draw is to be handed to `step`: at a new play that is taken, and nowhere else.
-    fn needs_draw(&self, e: &Numbered) -> bool
-        ensures { result ≡ is_draw_needed (meaning self.now) (view self.now) e.now };
+    fn needs_draw(&self, numbered: &Numbered) -> bool
+        ensures { result ≡ is_draw_needed (meaning self.now) (view self.now) numbered.now };
 
     /// The index of the next play's block.
     fn draw_index(&self) -> u64
         ensures { result ≡ (meaning self.now).index (view self.now) };
 
     /// Answers a numbered event: a new one is one entry more, a repeat gets the kept reply, any other changes nothing.
-    fn step(&mut self, e: &Numbered, draw: Option<(u64, Block)>) -> Stepped
-        requires draw { IsDrawFor (meaning self.old) (view self.old) e.now draw }
-        ensures answer { result ≡ answer (meaning self.old) (view self.old) e.now }
-        ensures view { view self.new ≡ after_answer (meaning self.old) (view self.old) e.now draw result }
+    fn step(&mut self, numbered: &Numbered, draw: Option<(u64, Block)>) -> Stepped
+        requires draw { IsDrawFor (meaning self.old) (view self.old) numbered.now draw }
+        ensures answer { result ≡ answer (meaning self.old) (view self.old) numbered.now }
+        ensures view { view self.new ≡ after_answer (meaning self.old) (view self.old) numbered.now draw result }
         ensures same { meaning self.new ≡ meaning self.old };
 
     /// Writes the payload that spells the view.
-    fn write_image(&self, image: &mut [u8])
-        requires { length image.old ≡ PAYLOAD_LEN }
-        ensures { (meaning self.now).spelled image.new ≡ Shows (view self.now) };
+    fn write_image(&self, payload: &mut [u8])
+        requires { length payload.old ≡ PAYLOAD_LEN }
+        ensures { (meaning self.now).spelled payload.new ≡ Shows (view self.now) };
 
     /// Takes the view that a payload spells. After any other answer than Read the core is as after `clear`.
-    fn load(&mut self, image: &[u8]) -> Loaded
-        requires { length image.now ≡ PAYLOAD_LEN }
-        ensures answer { result ≡ load_answer ((meaning self.old).spelled image.now) }
-        ensures view { view self.new ≡ view_loaded (meaning self.old) ((meaning self.old).spelled image.now) }
+    fn load(&mut self, payload: &[u8]) -> Loaded
+        requires { length payload.now ≡ PAYLOAD_LEN }
+        ensures answer { result ≡ load_answer ((meaning self.old).spelled payload.now) }
+        ensures view { view self.new ≡ view_loaded (meaning self.old) ((meaning self.old).spelled payload.now) }
         ensures same { meaning self.new ≡ meaning self.old };
 
     /// Takes the empty history.

@@ -1,5 +1,5 @@
 use Rattle.gd_base.proofs.ExampleLemmas.Texts.{meters, states, orders, recalls, logs}
-use Rattle.gd_base.proofs.laws.text_rows.computed.Goals as goal
+use Rattle.gd_base.proofs.laws.examples.texts.Goals as goal
 
 pub returns-clause-states : goal.returns-clause-states
 returns-clause-states c = states
