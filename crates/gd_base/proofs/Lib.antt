@@ -2,6 +2,7 @@ pub mod BoolTests
 pub mod AnswerLemmas
 pub mod BooksLemmas
 pub mod HistoryLemmas
+pub mod StageLemmas
 pub mod PayloadLemmas
 pub mod PreservedLemmas
 pub mod SoFarLemmas

@@ -8,9 +8,13 @@ ghost use Rattle.gd_base.specs.Histories.Numbers.{condition_number, door_conditi
 /// A door of the cabinet. While one is open the machine is locked up.
 #[derive(Clone, Copy, PartialEq, Eq, Debug)]
 pub enum Door {
+    /// That of the logic area, where the control program lies.
     Logic,
+    /// The main door.
     Main,
+    /// That of the cash box, where bills lie.
     Cashbox,
+    /// That of the drop box, where coins lie.
     Drop,
 }
 
@@ -57,13 +61,17 @@ impl Door {
 /// A fault of a device that locks the machine up until the attendant clears it.
 #[derive(Clone, Copy, PartialEq, Eq, Debug)]
 pub enum Tilt {
+    /// A bill is stuck.
     BillJam,
+    /// A coin is stuck.
     CoinJam,
     /// The box of the bill validator is full.
     StackerFull,
+    /// The printer has no paper.
     PaperOut,
     /// A voucher wasn't printed.
     PrintFail,
+    /// The hopper has no coins.
     HopperEmpty,
 }
 

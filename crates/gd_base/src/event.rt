@@ -10,11 +10,13 @@ use crate::game::{Colour, Game};
 pub enum Event {
     /// A bill of a value in cents.
     Bill { value: u32 },
-    /// The tilt of this name came up, as with the other events named for a tilt.
+    /// A bill is stuck: the tilt of this name comes up, as with the other events named for a tilt.
     BillJam,
+    /// The box of the bill validator is full.
     StackerFull,
     /// A coin of a value in cents.
     Coin { value: u32 },
+    /// A coin is stuck.
     CoinJam,
     /// A voucher of a value in cents, by the id that is printed on it.
     VoucherIn { id: u64, value: u32 },
@@ -22,12 +24,15 @@ pub enum Event {
     Printed { order: u64 },
     /// The voucher of the order of this number could not be printed.
     PrintFail { order: u64 },
+    /// The printer has no paper.
     PaperOut,
     /// One coin of the order of this number was paid out.
     CoinPaid { order: u64 },
     /// The hopper ran empty at the order of this number.
     HopperEmpty { order: u64 },
+    /// A door was opened.
     DoorOpen { door: Door },
+    /// A door was shut.
     DoorShut { door: Door },
     /// A play of a bet in credits: 1 to 9 in reels, which is also the number of lines, and 1 to 5 in poker.
     Play { game: Game, bet: u8 },
@@ -41,6 +46,7 @@ pub enum Event {
     Take,
     /// All credit is to be paid out.
     CashOut,
+    /// The attendant clears a tilt.
     ClearTilt { tilt: Tilt },
     /// The attendant paid the open handpay.
     HandpayDone,

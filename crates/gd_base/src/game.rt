@@ -8,7 +8,9 @@ ghost use Rattle.gd_base.specs.Histories.Numbers.{game_number};
 /// A game. Poker is five-card draw.
 #[derive(Clone, Copy, PartialEq, Eq, Debug)]
 pub enum Game {
+    /// Five reels of three rows and nine lines.
     Reels,
+    /// Five-card draw.
     Poker,
 }
 
@@ -50,7 +52,9 @@ impl Game {
 /// The colour of a card: diamonds and hearts are red, clubs and spades black.
 #[derive(Clone, Copy, PartialEq, Eq, Debug)]
 pub enum Colour {
+    /// Diamonds and hearts.
     Red,
+    /// Clubs and spades.
     Black,
 }
 

@@ -7,8 +7,11 @@ ghost use Rattle.gd_base.specs.Histories.Numbers.{meter_place};
 /// A meter: nine amounts in cents, then seven counts. The whole total is kept, and modulo 10^10 is shown.
 #[derive(Clone, Copy, PartialEq, Eq, Debug)]
 pub enum Meter {
+    /// Bills that were taken.
     BillIn,
+    /// Coins that were taken.
     CoinIn,
+    /// Vouchers that were taken in.
     VoucherIn,
     /// What was wagered in all plays.
     Wagered,
@@ -22,15 +25,19 @@ pub enum Meter {
     HandWin,
     /// Cancelled credit that the attendant paid.
     HandCancel,
+    /// Plays that were taken.
     GamesPlayed,
     /// Ended plays with a win above 0.
     GamesWon,
     /// Starts.
     PowerUps,
-    /// How often the door of this name was opened, as with the next three.
+    /// Openings of the logic door.
     LogicOpen,
+    /// Openings of the main door.
     MainOpen,
+    /// Openings of the cash box.
     CashboxOpen,
+    /// Openings of the drop box.
     DropOpen,
 }
 

@@ -109,6 +109,8 @@ impl Refusal {
 /// How a new event was judged.
 #[derive(Clone, Copy, PartialEq, Eq, Debug)]
 pub enum Reply {
+    /// It has its effect.
     Taken,
+    /// It has no effect but its entry.
     Refused(Refusal),
 }

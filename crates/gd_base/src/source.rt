@@ -9,7 +9,7 @@ ghost use Rattle.gd_base.specs.Outside.InMemory.{call_more};
 use std::io::Read;
 use std::marker::Model;
 
-/// The thing outside failed. It comes only where its count of faults rose in that call, or stands at 2^64 - 1.
+/// A source or a sink failed; a disk has an error of its own, of the same name. It comes only where its count of faults rose in that call, or stands at 2^64 - 1.
 #[derive(Clone, Copy, Debug, PartialEq, Eq)]
 pub struct Failed;
 

@@ -1,5 +1,5 @@
 -- A view with no entry that keeps the rules of a view is the empty one, but for its digest, its doors and its tilts.
-use Rattle.std.specs.Prelude.{◌≡◌, ℕ, zero, suc, ◌+◌, ◌-◌, ◌*◌, ◌<◌, ◌≤◌, ◌==◌, Bool, true, false, ◌&&◌, nat_le, nat_lt, is_some, is_none, sum, map, List, [], ◌∷◌, length, drop, replicate, slice_index, Option, Some, None, refl}
+use Rattle.std.specs.Prelude.{◌≡◌, ℕ, zero, suc, ◌+◌, ◌-◌, ◌*◌, ◌<◌, ◌≤◌, ◌==◌, true, ◌&&◌, nat_le, nat_lt, sum, map, List, [], ◌∷◌, length, drop, replicate, slice_index, Option, Some, None, refl}
 use Rattle.std.specs.List.{list_all}
 use Rattle.std.proofs.Common.{ap, sym, ◌∙◌, arith, ⊎_elim}
 use Rattle.std.proofs.lemmas.Bool.{cases_lt}
@@ -13,8 +13,7 @@ use Rattle.gd_base.specs.declared.payout.Handpay.{Handpay}
 use Rattle.gd_base.specs.declared.payout.Order.{Order}
 use Rattle.gd_base.specs.declared.play.PlayRecord.{PlayRecord}
 use Rattle.gd_base.specs.declared.records.VoucherRecord.{VoucherRecord}
-use Rattle.gd_base.specs.Histories.Credit.{order_amount}
-use Rattle.gd_base.specs.Payloads.ViewRules.{is_possible, view_rules, total, income, outgo, is_flagged_last, fall_from, play_limit, is_small_order, has_number, is_some_handpay, is_open_as, is_open_record, is_balanced, are_numbered, are_places}
+use Rattle.gd_base.specs.Payloads.ViewRules.{is_possible, view_rules, total, income, outgo, is_flagged_last, fall_from, play_limit, has_number, is_some_handpay, is_open_as, is_open_record}
 use Rattle.gd_base.specs.Histories.Meters.{handpay_amount}
 use Rattle.gd_base.specs.Histories.View.{View}
 use Rattle.gd_base.specs.Histories.ViewOf.{nothing_kept}

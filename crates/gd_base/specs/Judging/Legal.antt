@@ -1,5 +1,5 @@
 -- Which histories are legal: each entry is the one that its event makes of the view before it.
-use Rattle.std.specs.Prelude.{◌≡◌, ℕ, ◌+◌, ◌<◌, ◌^◌, if◌then◌else◌, List, [], ◌∷◌, Option, Some, None}
+use Rattle.std.specs.Prelude.{◌≡◌, ℕ, ◌+◌, ◌<◌, if◌then◌else◌, List, [], ◌∷◌, Option, Some, None}
 use Rattle.gd_base.specs.declared.limits.TheConstants.{MOST_ENTRIES}
 use Rattle.gd_base.specs.declared.event.Event.{Event}
 use Rattle.gd_base.specs.Histories.Entry.{Entry, device_of}

@@ -1,7 +1,6 @@
 -- While the machine is being built: what it makes of the events and payloads of which not all is there yet. Each
 -- definition here goes when its part is built.
-use Rattle.std.specs.Prelude.{ℕ, ◌+◌, ◌*◌, Bool, true, false, ◌&&◌, ◌==◌, if◌then◌else◌, List, [], ◌∷◌, map, replicate, Option, Some, refl}
-use Rattle.gd_base.specs.declared.device.Device.{Device}
+use Rattle.std.specs.Prelude.{ℕ, ◌+◌, ◌*◌, Bool, true, false, ◌&&◌, ◌==◌, if◌then◌else◌, List, [], ◌∷◌, replicate, Option, refl}
 use Rattle.gd_base.specs.declared.event.Event.{Event}
 use Rattle.gd_base.specs.declared.game.Game.{Game}
 use Rattle.gd_base.specs.declared.refusal.Refusal.{Refusal}
@@ -10,9 +9,7 @@ use Rattle.gd_base.specs.declared.layout.TheConstants.{HEAD_LEN, COUNT_AT, BALAN
 use Rattle.gd_base.specs.declared.payout.Handpay.{Handpay}
 use Rattle.gd_base.specs.declared.play.PlayRecord.{PlayRecord}
 use Rattle.gd_base.specs.declared.setup.Setup.{Setup}
-use Rattle.gd_base.specs.Histories.Devices.{devices, kept_at}
 use Rattle.gd_base.specs.Judging.Draws.{is_play}
-use Rattle.gd_base.specs.Histories.Numbers.{device_place, is_device}
 use Rattle.gd_base.specs.Histories.Entry.{is_taken}
 use Rattle.gd_base.specs.Judging.Machine.{Machine}
 use Rattle.gd_base.specs.Payloads.Bytes.{payload_of}

@@ -1,5 +1,5 @@
 -- Rules of a view that the next entry keeps.
-use Rattle.std.specs.Prelude.{ℕ, ◌+◌, ◌^◌, ◌==◌, Bool, IsTrue, nat_le, nat_lt, List, [], ◌∷◌, length, map, drop}
+use Rattle.std.specs.Prelude.{ℕ, ◌+◌, ◌==◌, Bool, IsTrue, nat_le, nat_lt, List, [], ◌∷◌, length, map, drop}
 use Rattle.std.specs.List.{list_all}
 use Rattle.gd_base.specs.declared.limits.TheConstants.{MOST_ENTRIES}
 use Rattle.gd_base.specs.declared.setup.Setup.{Setup}
