@@ -1,4 +1,4 @@
--- How the record of a run of calls is got, and how one run goes on after another.
+-- For callers: how the record of a run of calls is got, and how one run goes on after another.
 use Rattle.std.proofs.Common.{◌≡◌, ◌⊎◌, inl, inr, ⊎_elim, ℕ, ◌+◌, ◌<◌, ◌≤◌, List, [], ◌∷◌, length, Result, Ok, Err, refl, sym, ◌∙◌, ap, subst, arith, true, false, OnOk, OnErr, is_err}
 use Rattle.std.proofs.lemmas.Bool.{cases_lt}
 use Rattle.gd_disk.specs.Disk.{DiskState, IsCut, CountsCuts, Answers, Rose, later_cuts}

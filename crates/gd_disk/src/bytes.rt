@@ -1,4 +1,4 @@
-// Bytes in memory.
+//! Bytes in memory.
 ghost use Rattle.std.specs.Prelude.{◌≡◌, ◌≤◌, ◌+◌, length};
 ghost use Rattle.gd_disk.specs.Disk.{with_bytes};
 

@@ -1,18 +1,18 @@
-// A disk over a file.
+//! A disk over a file.
 ghost use Rattle.std.specs.Prelude.{◌≡◌, IsOk, IsErr, true, false};
-ghost use Rattle.gd_disk.specs.Disk.{Rose, next_count};
+ghost use Rattle.gd_disk.specs.Disk.{next_count};
 
 use crate::{DISK_LEN, Disk, Off};
 use std::fs::File;
 use std::os::unix::fs::FileExt;
 use std::rt::Files;
 
-/// A disk over one file of `DISK_LEN` bytes. It tells none of its content to a contract. A call that the file fails is a
-/// counted failure, and leaves the disk off; a read or a write that is interrupted or cut short is carried on. A sync is
-/// one of the file's data. What the file holds and keeps is the system's word.
+/// A disk over one file of `DISK_LEN` bytes. It tells none of its content to a contract. A call that the file fails is
+/// a counted failure, and leaves the disk off; a read or a write that is interrupted or cut short is carried on. A sync
+/// is one of the file's data. What the file holds and keeps is the system's word.
 #[derive(Drop)]
 pub struct FileDisk {
-    // none where it couldn't be opened or has another length
+    /// None where it couldn't be opened or has another length.
     file: Option<File>,
     is_on: bool,
     stops: u64,
@@ -21,8 +21,8 @@ pub struct FileDisk {
     syncs: u64,
 }
 
-// The file at this path, where it can be read and written and has a disk's length.
-fn opened(files: &impl Files<File = File>, path: &str) -> Option<File> {
+/// The file at this path, where it can be read and written and has a disk's length.
+fn open_file(files: &impl Files<File = File>, path: &str) -> Option<File> {
     let file = File::options()
         .read(true)
         .write(true)
@@ -46,10 +46,10 @@ impl FileDisk {
         ensures fresh { HasDoneNothing (file_state result) }
         ensures synced { IsSynced (file_state result) }
     {
-        FileDisk::over(opened(files, path))
+        FileDisk::over(open_file(files, path))
     }
 
-    // The disk over an open file, or one that is off.
+    /// The disk over an open file, or one that is off.
     pub(crate) fn over(file: Option<File>) -> FileDisk
         ensures { HasDoneNothing (file_state result) }
     {
@@ -63,10 +63,11 @@ impl FileDisk {
         }
     }
 
-    // Whether the power is on. A call on a disk that is off is counted.
-    fn serves(&mut self) -> bool
-        ensures yes { result ≡ true → (self.old.is_on ≡ true) × (self.new ≡ self.old) }
-        ensures no { result ≡ false → (self.old.is_on ≡ false) × (self.new.is_on ≡ false) × (self.new.stops ≡ next_count self.old.stops) }
+    /// Whether the power is on. A call on a disk that is off is counted.
+    fn admits(&mut self) -> bool
+        ensures answer { result ≡ self.old.is_on }
+        ensures on { result ≡ true → self.new ≡ self.old }
+        ensures off { result ≡ false → (self.new.is_on ≡ false) × (self.new.stops ≡ next_count self.old.stops) }
         ensures faults { self.new.faults ≡ self.old.faults }
         ensures reads { self.new.reads ≡ self.old.reads }
         ensures syncs { self.new.syncs ≡ self.old.syncs }
@@ -78,10 +79,12 @@ impl FileDisk {
         false
     }
 
-    // What a call answers that the file did, or failed to do. A failure is counted, and the power goes off.
+    /// What a call answers that the file did, or failed to do. A failure is counted, and the power goes off.
     fn answers(&mut self, is_done: bool) -> Result<(), Off>
-        ensures yes { is_done ≡ true → IsOk result × (self.new ≡ self.old) }
-        ensures no { is_done ≡ false → IsErr result × (self.new.is_on ≡ false) × (self.new.stops ≡ next_count self.old.stops) × Rose self.old.faults self.new.faults }
+        ensures done { is_done ≡ true → IsOk result × (self.new ≡ self.old) }
+        ensures failed { is_done ≡ false → IsErr result × (self.new.is_on ≡ false) }
+        ensures stop { is_done ≡ false → self.new.stops ≡ next_count self.old.stops }
+        ensures fault { is_done ≡ false → self.new.faults ≡ next_count self.old.faults }
         ensures reads { self.new.reads ≡ self.old.reads }
         ensures syncs { self.new.syncs ≡ self.old.syncs }
     {
@@ -109,7 +112,7 @@ impl Disk for FileDisk {
     }
 
     fn read(&mut self, at: u64, into: &mut [u8]) -> Result<(), Off> {
-        if !self.serves() {
+        if !self.admits() {
             return Err(Off);
         }
         let is_done = match &self.file {
@@ -122,7 +125,7 @@ impl Disk for FileDisk {
     }
 
     fn write(&mut self, at: u64, bytes: &[u8]) -> Result<(), Off> {
-        if !self.serves() {
+        if !self.admits() {
             return Err(Off);
         }
         let is_done = match &self.file {
@@ -133,7 +136,7 @@ impl Disk for FileDisk {
     }
 
     fn sync(&mut self) -> Result<(), Off> {
-        if !self.serves() {
+        if !self.admits() {
             return Err(Off);
         }
         let is_done = match &self.file {

@@ -1,4 +1,4 @@
-// What no clause says of a disk over a file: that bytes reach the file, and over which files it is off.
+//! What no clause says of a disk over a file: that bytes reach the file, and over which files it is off.
 use crate::{DISK_LEN, Disk, FileDisk, Off};
 use std::alloc::{AllocError, Global};
 use std::fs;
@@ -26,7 +26,7 @@ fn contents<D: Disk>(rt: &impl Abort, disk: &mut D, at: u64) -> Result<[u8; 5], 
     Ok(bytes)
 }
 
-// Whether each kind of call fails, and is counted.
+/// Whether each kind of call fails, and is counted.
 fn is_off<D: Disk>(rt: &impl Abort, disk: &mut D) -> bool {
     let before = disk.stops();
     contents(rt, disk, 0) == Err(Off)
@@ -57,12 +57,19 @@ fn keeps_bytes_in_a_file(rt: HostRuntime) -> Result<(), Fail> {
 }
 
 #[test]
-fn is_off_over_no_file(rt: HostRuntime) -> Result<(), Fail> {
+fn is_off_over_a_folder(rt: HostRuntime) -> Result<(), Fail> {
     let folder = "file_disk_folder";
     fs::create_dir_all(&rt, folder)?;
     assert!(rt; is_off(&rt, &mut FileDisk::at(&rt, folder)));
     fs::remove_dir(&rt, folder)?;
-    assert!(rt; is_off(&rt, &mut FileDisk::at(&rt, "file_disk_missing")));
+    Ok(())
+}
+
+#[test]
+fn a_disk_over_a_file_that_is_not_there_makes_none(rt: HostRuntime) -> Result<(), Fail> {
+    let path = "file_disk_missing";
+    assert!(rt; is_off(&rt, &mut FileDisk::at(&rt, path)));
+    assert_eq!(rt; fs::exists(&rt, path)?, false);
     Ok(())
 }
 
@@ -89,7 +96,7 @@ fn a_read_past_the_end_is_a_failure(rt: HostRuntime) -> Result<(), Fail> {
     Ok(())
 }
 
-// A device that has no room for what is written, where the system has one.
+/// A device that has no room for what is written, where the system has one.
 #[test]
 fn a_write_to_a_full_file_is_a_failure(rt: HostRuntime) -> Result<(), Fail> {
     if let Ok(full) = File::options()

@@ -27,6 +27,20 @@ pub const COPY_LEN: usize = FRAME_LEN + DIGEST_LEN * PAGE_COUNT + PAGE_LEN * PAG
 /// Bytes on a disk: two copies, one behind the other.
 pub const DISK_LEN: u64 = 2 * COPY_LEN as u64;
 
+const _: () = prove!(GATE_LEN == 1);
+
+const _: () = prove!(HEADER_LEN == 16);
+
+const _: () = prove!(DIGEST_LEN == 32);
+
+const _: () = prove!(PAGE_LEN == 512);
+
+const _: () = prove!(PAGE_COUNT == 32);
+
+const _: () = prove!(DIGESTS_AT == 17);
+
+const _: () = prove!(FRAME_LEN == 49);
+
 const _: () = prove!(COPY_LEN == 17_457);
 
 const _: () = prove!(DISK_LEN == 34_914);

@@ -1,5 +1,5 @@
-// What no clause says: which bytes a loss leaves, and which call a fault comes at.
-use crate::{CutUnit, Disk, Failed, LabDisk, MemoryDisk, MemoryLab, Off};
+//! Worked bytes of what a loss leaves, and the calls of each disk.
+use crate::{CutUnit, Disk, Failed, LabDisk, MOST_CUTS, MOST_TORN, MemoryDisk, MemoryLab, Off};
 use std::process::Abort;
 use std::test::Fail;
 
@@ -7,7 +7,7 @@ const OLD: [u8; 8] = [1, 2, 3, 4, 5, 6, 7, 8];
 
 const NEW: [u8; 5] = [21, 22, 23, 24, 25];
 
-// What each kind of tearing leaves of NEW, written over OLD from place 2 on.
+/// What each kind of tearing leaves of NEW, written over OLD from place 2 on.
 const LEFT: [[u8; 8]; 4] = [
     [1, 2, 3, 4, 5, 6, 7, 8],
     [1, 2, 21, 22, 23, 24, 25, 8],
@@ -35,9 +35,9 @@ fn write_synced<D: Disk>(rt: &impl Abort, disk: &mut D, at: u64, bytes: &[u8]) -
 }
 
 fn arm<L: LabDisk>(rt: &impl Abort, lab: &mut L, unit: CutUnit, count: u32, torn: u8) {
-    assert!(rt; lab.cuts_armed() < 256);
+    assert!(rt; lab.cuts_armed() < MOST_CUTS);
     assert!(rt; count >= 1);
-    assert!(rt; torn <= 3);
+    assert!(rt; torn <= MOST_TORN);
     lab.arm(unit, count, torn);
 }
 
@@ -52,7 +52,7 @@ fn alter<L: LabDisk>(rt: &impl Abort, lab: &mut L, at: u64, mask: u8) {
     lab.alter(at, mask);
 }
 
-// OLD is durable, and the power is cut while NEW is written over it.
+/// OLD is durable, and the power is cut while NEW is written over it.
 fn torn_write<L: LabDisk>(
     rt: &impl Abort,
     lab: &mut L,
@@ -127,22 +127,7 @@ fn alters_what_a_loss_left(rt: HostRuntime) -> Result<(), Fail> {
     Ok(())
 }
 
-#[test]
-fn finds_no_more_than_256_images(rt: HostRuntime) -> Result<(), Fail> {
-    let mut lab = MemoryLab::new(rt.alloc(), 8)?;
-    write(&rt, &mut lab, 0, &OLD)?;
-    for _ in 0..256 {
-        lab.power_off();
-        turn_on(&rt, &mut lab)?;
-        assert_eq!(rt; contents(&rt, &mut lab)?, [0; 8]);
-    }
-    lab.power_off();
-    assert_eq!(rt; turn_on(&rt, &mut lab), Err(Failed));
-    assert_eq!(rt; contents(&rt, &mut lab), Err(Off));
-    Ok(())
-}
-
-// Writes, and reads it back.
+/// Writes, and reads it back.
 fn holds_what_is_written<D: Disk>(rt: &impl Abort, disk: &mut D) -> Result<(), Fail> {
     write_synced(rt, disk, 0, &OLD)?;
     write(rt, disk, 2, &NEW)?;

@@ -1,7 +1,7 @@
 use Rattle.std.proofs.Common.{◌≡◌, ◌∙◌, ◌+◌, ◌++◌, ap, arith, length, List, ℕ, rules}
 use Rattle.gd_disk.specs.Image.{images_of}
 use Rattle.gd_disk.proofs.Lab.{one_more_image}
-use Rattle.gd_disk.proofs.memory_lab.keep.Goals as goal
+use Rattle.gd_disk.proofs.memory_lab.append_image.Goals as goal
 
 pub returns-clause-kept : goal.returns-clause-kept
 returns-clause-kept c =
