@@ -37,7 +37,7 @@ impl Draws for ListDraws {
     }
 }
 
-/// What the types of listed_block blocks make true of them.
+/// What the types of listed blocks make true of them.
 fn all_fit(blocks: &[Block])
     ensures { AreListed blocks.now }
 {

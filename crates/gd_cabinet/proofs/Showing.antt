@@ -1,4 +1,4 @@
--- What an image shows that boots to a payload which was kept or load_answer.
+-- What an image shows that boots to a payload which was kept or loaded.
 use Rattle.std.proofs.Common.{◌≡◌, ◌∙◌, sym, ap, subst, arith, ℕ, List, Option, Some, None, refl}
 use Rattle.std.proofs.lemmas.Bool.Decides.{nat_tests}
 use Rattle.gd_base.specs.Judging.Machine.{Machine}
@@ -32,7 +32,7 @@ read_shows M Unreadable is = absurd (is_not is)
     is_not : Loaded.Unreadable ≡ Loaded.Read → ⊥
     is_not same = cc
 
--- an image whose payload was load_answer shows the view that was read
+-- an image whose payload was loaded shows the view that was read
 booted_shows : {V : Type 0} (M : Machine V) (n : ℕ) (p : List ℕ) (c : List ℕ) → boots LAYOUT c ≡ Some (n, p) → load_answer (at_sequence M n (M.spelled p)) ≡ Loaded.Read → shows M c ≡ Shows (view_loaded M (at_sequence M n (M.spelled p)))
 booted_shows M n p c boot read = ap (λ (b : Option (ℕ × List ℕ)). opens M (spelled_boot M b)) boot ∙ read_shows M (at_sequence M n (M.spelled p)) read
 

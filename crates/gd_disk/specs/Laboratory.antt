@@ -8,7 +8,7 @@ use Rattle.gd_disk.specs.declared.medium.TheConstants.{UNMARKED, FIRST_HALF, SEC
 
 -- what it keeps beside what it shows as a disk
 pub record Inside : Type 0 where
-  -- at each place the byte of the last good sync, the byte now, and a mark where it was with_bytes since
+  -- at each place the byte of the last good sync, the byte now, and a mark where it was written since
   pub durable : List ℕ
   pub current : List ℕ
   pub marks : List ℕ
@@ -33,7 +33,7 @@ inside_at_start n fail_at = record {
 abbrev pub halves : ℕ → List ℕ
 halves n = replicate (n / 2) FIRST_HALF ++ replicate (n - n / 2) SECOND_HALF
 
--- a byte that was with_bytes: by the kind 0 the old one, 1 the new one, 2 the new one in a first half, and 3 neither
+-- a byte that was written: by the kind 0 the old one, 1 the new one, 2 the new one in a first half, and 3 neither
 abbrev pub left_of_written : ℕ → ℕ → ℕ → ℕ → ℕ
 left_of_written torn old new mark =
     if torn == 0 then old
@@ -70,7 +70,7 @@ loss_at true false cut = cut
 abbrev pub after_call : Option ℕ → Inside → Inside
 after_call loss lab = record lab { torn = unwrap_or loss lab.torn; plan = next_call lab.plan }
 
--- bytes are with_bytes at a place, and marked
+-- bytes are written at a place, and marked
 abbrev pub after_write : ℕ → List ℕ → Inside → Inside
 after_write at bytes lab = record lab {
   current = with_bytes at bytes lab.current;

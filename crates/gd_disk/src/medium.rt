@@ -23,7 +23,7 @@ const _: () = prove!(FIRST_HALF == 1);
 
 const _: () = prove!(SECOND_HALF == 2);
 
-/// At each place the byte of the last good sync, the byte now, and a mark where it was with_bytes since, by the half of
+/// At each place the byte of the last good sync, the byte now, and a mark where it was written since, by the half of
 /// the write that it stood in. The marks stand from `low` on and before `high`.
 #[derive(Drop)]
 pub(crate) struct Medium {
@@ -31,7 +31,7 @@ pub(crate) struct Medium {
     pub(crate) durable: Vec<u8>,
     /// The bytes now.
     pub(crate) current: Vec<u8>,
-    /// By which half of a write each was with_bytes since, if it was.
+    /// By which half of a write each was written since, if it was.
     pub(crate) marks: Vec<u8>,
     pub(crate) low: usize,
     pub(crate) high: usize,
@@ -152,7 +152,7 @@ fn mark(marks: &mut [u8], at: usize, n: usize)
     mark_span(marks, at + half, at + n, SECOND_HALF);
 }
 
-/// Writes, and marks what is with_bytes.
+/// Writes, and marks what is written.
 fn write_marked(durable: &[u8], current: &mut [u8], marks: &mut [u8], at: usize, bytes: &[u8])
     requires fits { at + length bytes.now ≤ length durable.now }
     requires marked { IsMarked durable.now current.old marks.old }

@@ -1,4 +1,4 @@
--- What an image with one copy being with_bytes boots to.
+-- What an image with one copy being written boots to.
 use Rattle.std.proofs.Common.{◌≡◌, ◌≢◌, ◌⊎◌, inl, inr, ⊎_elim, ℕ, ◌+◌, ◌*◌, ◌^◌, ◌<◌, ◌≤◌, List, length, get_or, refl, sym, ◌∙◌, ap, subst, arith, Option, Some, None}
 use Rattle.std.proofs.lemmas.Bool.{cases_eq}
 use Rattle.std.proofs.lemmas.Bool.Decides.{nat_tests}
@@ -67,7 +67,7 @@ module _ (l : Layout) (n : ℕ) (q : List ℕ) (range : n < 2 ^ 64) (long_q : le
   new_is : (x : List ℕ) → x ≡ sealed l n q → IsCopy l n q x
   new_is x is = (ap (state_of l) is ∙ sealed_sound l n q range long_q, ap (stored_payload l) is ∙ sealed_payload l n q range long_q)
 
-  -- one copy is being with_bytes over another: what stands is the other copy, and this one is the old one, or shut, or new
+  -- one copy is being written over another: what stands is the other copy, and this one is the old one, or shut, or new
   shut_a : (c : List ℕ) → IsShut l.a c → state_of l (copy_a l c) ≡ Bad Shut
   shut_a c shut = shut_state l (copy_a l c) (λ is_open. shut (sym (first_of l.a (copy_len l.pages) c (omega arith)) ∙ is_open))
 
@@ -92,7 +92,7 @@ module _ (l : Layout) (n : ℕ) (q : List ℕ) (range : n < 2 ^ 64) (long_q : le
   pub new_b : (c : List ℕ) → part l.b (length (sealed l n q)) c ≡ sealed l n q → IsCopy l n q (copy_b l c)
   new_b c whole = new_is (copy_b l c) (subst (λ (k : ℕ). part l.b k c ≡ sealed l n q) len_new whole)
 
-  -- while a copy that isn't the booted one is with_bytes over with what is booted, this is booted
+  -- while a copy that isn't the booted one is written over with what is booted, this is booted
   pub repair_a : (d c : List ℕ) → IsCopy l n q (copy_b l d) → boots l d ≡ Some (n, q) → IsWriting l.a (sealed l n q) d c → boots l c ≡ Some (n, q)
   repair_a d c holds booted w = ⊎_elim
       (λ same. boots_from l c (copy_a l d) (copy_b l d) (sym (old_a d c same)) (sym (b_stands d c w)) ∙ booted)
@@ -118,7 +118,7 @@ module _ (l : Layout) (n : ℕ) (q : List ℕ) (range : n < 2 ^ 64) (long_q : le
       there = carried l n q (copy_a l d) (copy_a l c) (a_stands d c w) holds
 
   module _ (m : ℕ) (p : List ℕ) (later : m < n) where
-    -- while copy a is with_bytes over with a later payload, copy b being an old one
+    -- while copy a is written over with a later payload, copy b being an old one
     pub boots_a : (d c : List ℕ) → Holds l (m, p) (m, p) d → IsWriting l.a (sealed l n q) d c → (boots l c ≡ Some (m, p)) ⊎ (boots l c ≡ Some (n, q))
     boots_a d c holds w = ⊎_elim
         (λ same. inl (from_states l c (Sound m) (Sound m) p p (ap (state_of l) (old_a d c same) ∙ holds.0.0) there.0 (ap (stored_payload l) (old_a d c same) ∙ holds.0.1) there.1 ∙ chosen_same m p))
@@ -131,7 +131,7 @@ module _ (l : Layout) (n : ℕ) (q : List ℕ) (range : n < 2 ^ 64) (long_q : le
         there : IsCopy l m p (copy_b l c)
         there = carried l m p (copy_b l d) (copy_b l c) (b_stands d c w) holds.1
 
-    -- while copy b is with_bytes over, copy a being the new one
+    -- while copy b is written over, copy a being the new one
     pub boots_b : (d c : List ℕ) → Holds l (n, q) (m, p) d → IsWriting l.b (sealed l n q) d c → boots l c ≡ Some (n, q)
     boots_b d c holds w = ⊎_elim
         (λ same. from_states l c (Sound n) (Sound m) q p there.0 (ap (state_of l) (old_b d c same) ∙ holds.1.0) there.1 (ap (stored_payload l) (old_b d c same) ∙ holds.1.1) ∙ chosen_first m n p q later)
@@ -144,7 +144,7 @@ module _ (l : Layout) (n : ℕ) (q : List ℕ) (range : n < 2 ^ 64) (long_q : le
         there : IsCopy l n q (copy_a l c)
         there = carried l n q (copy_a l d) (copy_a l c) (a_stands d c w) holds.0
 
-  -- what a read gives after copy a is with_bytes, and after copy b
+  -- what a read gives after copy a is written, and after copy b
   pub written_a : (d : List ℕ) → l.b + copy_len l.pages ≤ length d → IsCopy l n q (copy_a l (with_bytes l.a (sealed l n q) d)) × (copy_b l (with_bytes l.a (sealed l n q) d) ≡ copy_b l d)
   written_a d long = (
     new_a (with_bytes l.a (sealed l n q) d) (part-written l.a (sealed l n q) d (omega (arith, len_new, apart, long))),

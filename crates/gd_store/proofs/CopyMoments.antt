@@ -44,7 +44,7 @@ module _ (at : ℕ) (body : List ℕ) where
     whole_or_shut = ⊎_elim (λ shut. inr (inl shut)) (λ same. inl (ap (λ (x : List ℕ). part at (length (0xA5 ∷ body)) x) same)) s.shut_or_same;
   }
 
-  -- while the body is with_bytes behind the shut gate
+  -- while the body is written behind the shut gate
   pub while_filling : (d m c : List ℕ) → Torn at 1 d m → IsShut at m → Torn (at + 1) (length body) m c → IsWriting at (0xA5 ∷ body) d c
   while_filling d m c first shut torn = record {
     elsewhere = torn_trans at (length (0xA5 ∷ body)) d m c (torn_wider at 1 at (length (0xA5 ∷ body)) d m (omega arith) one_le first)
@@ -79,7 +79,7 @@ module _ (at : ℕ) (body : List ℕ) where
           at_byte at c lt ∙ ap (λ (g : ℕ). g ∷ drop (at + 1) c) is_open ∙ ap (λ (x : List ℕ). 0xA5 ∷ x) (torn.after ∙ drop_at-written (at + 1) body m long_m) in
           ap (λ (x : List ℕ). take (length (0xA5 ∷ body)) x) from_gate ∙ take_at (0xA5 ∷ body) (drop (at + 1 + length body) m) (length (0xA5 ∷ body)) refl
 
-  -- while a copy is with_bytes over one that is shut
+  -- while a copy is written over one that is shut
   pub after_shutting : (d m c : List ℕ) → Torn at 1 d m → IsShut at m → IsWriting at (0xA5 ∷ body) m c → IsWriting at (0xA5 ∷ body) d c
   after_shutting d m c first shut w = record {
     elsewhere = torn_trans at (length (0xA5 ∷ body)) d m c (torn_wider at 1 at (length (0xA5 ∷ body)) d m (omega arith) one_le first) w.elsewhere;
@@ -116,7 +116,7 @@ module _ (at : ℕ) (body : List ℕ) where
   seen_whole None long = refl
   seen_whole (Some d) long = ap Some (written_whole d (long d refl))
 
-  -- what a read gives after a gate is shut and the copy is with_bytes
+  -- what a read gives after a gate is shut and the copy is written
   pub seen_over : (seen : Option (List ℕ)) (gate : ℕ) → ((d : List ℕ) → seen ≡ Some d → at + 1 + length body ≤ length d) → seen_with_bytes at (0xA5 ∷ body) (seen_shut at gate seen) ≡ seen_with_bytes at (0xA5 ∷ body) seen
   seen_over None gate long = elim (gate == 0xA5) as (λ b. seen_with_bytes at (0xA5 ∷ body) (if b then None else None) ≡ None) [ true ↦ refl | false ↦ refl ]
   seen_over (Some d) gate long = elim (gate == 0xA5) as (λ b. seen_with_bytes at (0xA5 ∷ body) (if b then Some (with_bytes at (0 ∷ []) d) else Some d) ≡ Some (with_bytes at (0xA5 ∷ body) d)) [

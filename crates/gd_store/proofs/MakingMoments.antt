@@ -15,7 +15,7 @@ use Rattle.gd_store.proofs.CopyMoments.{shutting, told}
 use Rattle.gd_store.proofs.Images.{first_of, part_before, part_behind}
 use Rattle.gd_disk.specs.declared.lengths.TheConstants.{PAGE_LEN}
 
--- a gate that held this byte, after it was with_bytes over where it was open
+-- a gate that held this byte, after it was written over where it was open
 shut_or_same : (at gate : ℕ) (d c : List ℕ) → at < length d → get_or d at 0 ≡ gate → IsOverOpen at gate d c → IsShut at c ⊎ (c ≡ d)
 shut_or_same at gate d c lt is over = elim (cases_eq gate 0xA5) [
   | inl is_open ↦ (shutting at d c lt (is ∙ is_open) over.elsewhere).shut_or_same
@@ -49,12 +49,12 @@ module _ (l : Layout) (apart : l.a + copy_len l.pages ≤ l.b) where
         (shut_or_same l.b gate_b m c (omega (arith, first.elsewhere.same_length, lt)) (byte_behind l.a 1 l.b d m (omega (arith, apart)) first.elsewhere ∙ is_b) second);
   }
 
--- a fact of what a read gives, after a gate may have been with_bytes over
+-- a fact of what a read gives, after a gate may have been written over
 shut_told : (seen : Option (List ℕ)) (at gate : ℕ) (P Q : List ℕ → Type 0) → ((d : List ℕ) → seen ≡ Some d → P d → Q (with_bytes at (0 ∷ []) d)) → ((d : List ℕ) → P d → Q d) → IfTold seen P → IfTold (seen_shut at gate seen) Q
 shut_told None at gate P Q from same fact = elim (gate == 0xA5) as (λ b. IfTold (if b then None else None) Q) [ true ↦ tt | false ↦ tt ]
 shut_told (Some d) at gate P Q from same fact = elim (gate == 0xA5) as (λ b. IfTold (if b then Some (with_bytes at (0 ∷ []) d) else Some d) Q) [ true ↦ from d refl fact | false ↦ same d fact ]
 
--- gate b is as it was read, after gate a may have been with_bytes over
+-- gate b is as it was read, after gate a may have been written over
 pub gate_b_stands : (l : Layout) (gate_a gate_b : ℕ) (disk : DiskState) → LiesWithin l disk.size → IfTold disk.seen (λ image. get_or image l.b 0 ≡ gate_b) → IfTold (seen_shut l.a gate_a disk.seen) (λ image. get_or image l.b 0 ≡ gate_b)
 gate_b_stands l gate_a gate_b disk within fact = shut_told disk.seen l.a gate_a (λ image. get_or image l.b 0 ≡ gate_b) (λ image. get_or image l.b 0 ≡ gate_b) (λ d is here.
     let long : length d ≡ disk.size = disk.whole d is in
@@ -122,7 +122,7 @@ module _ (l : Layout) (p copy : List ℕ) (long : length p ≡ PAGE_LEN * l.page
         w.whole_or_shut;
   }
 
-  -- copy a is with_bytes, and copy b is shut
+  -- copy a is written, and copy b is shut
   abbrev IsHalf : List ℕ → Type 0
   IsHalf c = IsCopy l 0 p (copy_a l c) × IsShut l.b c
 

@@ -38,7 +38,7 @@ write_run (Err e) old new call answer = record {
 pub read_run : {T E : Type 0} (x : T) (old new : DiskState) → new.armed ≡ old.armed → new.faults ≡ old.faults → CutsOfRun {E = E} 0 (Ok x) old new
 read_run x old new armed faults = record { left = subst (λ (cuts : List ArmedCut). CutsLeft 0 old.armed cuts) (sym armed) (no_call old.armed); no_fault = faults; cause = tt }
 
--- what a read gives after both copies are with_bytes
+-- what a read gives after both copies are written
 module _ (l : Layout) (n : ℕ) (p copy : List ℕ) (range : n < 2 ^ 64) (long : length p ≡ PAGE_LEN * l.pages) (is_copy : copy ≡ sealed l n p) (s1 s2 s3 : DiskState) (within : LiesWithin l s1.size) (size : s2.size ≡ s1.size) where
   first : s2.seen ≡ seen_with_bytes l.a copy s1.seen → IfTold s2.seen (λ c. IsCopy l n p (copy_a l c))
   first seen = subst (λ (s : Option (List ℕ)). IfTold s (λ c. IsCopy l n p (copy_a l c))) (sym seen) (told_written s1.seen l.a copy (λ c. Unit {0}) (λ c. IsCopy l n p (copy_a l c)) (λ d is none.

@@ -30,7 +30,7 @@ won_if false win none = add-zero (0 + win) ∙ zero-add win
 won : (win : ℕ) → sum_by (share Meter.Won) (win_additions win) ≡ win
 won win = won_if (win == 0) win (is_zero win)
 
--- a posted_win win goes to the balance, or is held_amount where nothing else is
+-- a posted win goes to the balance, or is held where nothing else is
 win_kept : (win : ℕ) (is_small : Bool) (h : Option Handpay) → (is_small ≡ false → handpay_amount h ≡ 0)
     → cond is_small win 0 + handpay_amount (or_else (cond is_small None (Some (Some (record { win = true; amount = win })))) h) ≡ win + handpay_amount h
 win_kept win true h only = refl
@@ -82,8 +82,8 @@ no_win false win none = refl
 
 -- ================ one event
 
--- what the rule sees to: the wager is covered, a cash-out finds nothing ordered_amount or held_amount, a coin is still to be paid,
--- and a win that isn't small finds nothing held_amount
+-- what the rule sees to: the wager is covered, a cash-out finds nothing ordered or held, a coin is still to be paid,
+-- and a win that isn't small finds nothing held
 abbrev pub Fits : Origin → List Entry → ℕ → Bool → Event → Type 0
 Fits o past win is_small (Event.Play game bet) = (wager o.setup bet ≤ balance o past) × (is_small ≡ false → held_amount o past ≡ 0)
 Fits o past win is_small Event.CashOut = (ordered_amount o past ≡ 0) × (held_amount o past ≡ 0) × (win ≡ 0)

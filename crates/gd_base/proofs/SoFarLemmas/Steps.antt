@@ -102,7 +102,7 @@ effect_start setup count balance totals play handpay kept number draw len is =
 
 -- ================ a play that begins or is moved on
 
--- the win that is posted_win, by whether the play has ended
+-- the win that is posted, by whether the play has ended
 abbrev pub won : Setup → Bool → Round → ℕ
 won setup is_ended r = win_of setup (if is_ended then Some r else None)
 

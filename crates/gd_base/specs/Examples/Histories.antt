@@ -48,7 +48,7 @@ abbrev pub times : ℕ → List Event → List Event
 times zero events = []
 times (suc n) events = events ++ times n events
 
--- the built-in setup with another handpay limit, whose rule has to be shown_total
+-- the built-in setup with another handpay limit, whose rule has to be shown
 abbrev pub with_limit : (limit : ℕ) → IsTrue (nat_le 1 limit && nat_le limit 100000000) → Setup
 with_limit limit h = record built_in_setup { handpay_limit = limit; has_handpay_limit = h }
 
@@ -122,7 +122,7 @@ pub record OneBill : Type 0 where
   pub totals : first_bill.totals ≡ 500 ∷ 0 ∷ 0 ∷ 0 ∷ 0 ∷ 0 ∷ 0 ∷ 0 ∷ 0 ∷ 0 ∷ 0 ∷ 1 ∷ 0 ∷ 0 ∷ 0 ∷ 0 ∷ []
   pub balance : first_bill.balance ≡ 500
 
--- a meter rolls over in what is shown_total
+-- a meter rolls over in what is shown
 pub record RollsOver : Type 0 where
   pub below : shown_total 9999999999 ≡ 9999999999
   pub at : shown_total 10000000000 ≡ 0

@@ -76,7 +76,7 @@ prize setup words door = slice_index setup.prizes ((door - 1 + pick (word_at wor
 
 -- ================ cards
 
--- the cards that the words take, one after another, from those not yet dealt_cards
+-- the cards that the words take, one after another, from those not yet dealt
 abbrev pub cards_from : List ℕ → List ℕ → List ℕ
 cards_from left [] = []
 cards_from left (word ∷ words) =

@@ -29,7 +29,7 @@ amount_of (ByHand amount) = amount
 abbrev pub wager : Setup → ℕ → ℕ
 wager setup bet = bet * setup.denom
 
--- a posted_win win below the handpay limit goes to the balance
+-- a posted win below the handpay limit goes to the balance
 abbrev pub credited_win : Setup → ℕ → ℕ
 credited_win setup win = if nat_lt win setup.handpay_limit then win else 0
 
@@ -77,7 +77,7 @@ open_order_by setup balance orders before (Event.PrintFail order) = None
 open_order_by setup balance orders before (Event.HopperEmpty order) = None
 open_order_by setup balance orders before _ = before
 
--- what is ordered_amount: the amount of the open order, with the coins that were paid taken off
+-- what is ordered: the amount of the open order, with the coins that were paid taken off
 abbrev pub order_amount : Option Order → ℕ
 order_amount None = 0
 order_amount (Some order) = order.amount

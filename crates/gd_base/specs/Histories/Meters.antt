@@ -29,7 +29,7 @@ handpay_of_payment (ByHopper amount) = None
 handpay_of_payment (ByPrinter amount) = None
 handpay_of_payment (ByHand amount) = Some (Some (record { win = false; amount = amount }))
 
--- a posted_win win that the handpay limit keeps from the balance
+-- a posted win that the handpay limit keeps from the balance
 abbrev pub handpay_of_win : Setup → ℕ → Option (Option Handpay)
 handpay_of_win setup win = if nat_lt win setup.handpay_limit then None else Some (Some (record { win = true; amount = win }))
 
@@ -98,6 +98,6 @@ abbrev pub with_additions : List Addition → List ℕ → List ℕ
 with_additions [] totals = totals
 with_additions (a ∷ others) totals = with_additions others (with_one a.0 a.1 totals)
 
--- a total as it is shown_total
+-- a total as it is shown
 abbrev pub shown_total : ℕ → ℕ
 shown_total total = total % 10 ^ 10

@@ -69,11 +69,11 @@ abbrev pub is_take : Event → Bool
 is_take Event.Take = true
 is_take _ = false
 
--- whether an event ends the play that it moved_round on
+-- whether an event ends the play that it moved on
 abbrev pub is_over : Setup → Event → Round → Bool
 is_over setup event r = is_take event || is_stage (round_stage setup r).phase StageOpen.Ended
 
--- what is open after an event that moved_round a play on, or none
+-- what is open after an event that moved a play on, or none
 abbrev pub left_open : Setup → Event → Option Round → Option Round → Option Round
 left_open setup event before None = before
 left_open setup event before (Some r) = if is_over setup event r then None else Some r

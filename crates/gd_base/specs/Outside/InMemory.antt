@@ -19,6 +19,6 @@ pub record SinkState : Type 0 where
   pub room : ℕ
   pub faults : ℕ
 
--- the listed_block block of an index in lap 0, and else zeros
+-- the listed block of an index in lap 0, and else zeros
 abbrev pub listed_block : List (List ℕ) → ℕ → ℕ → List ℕ
 listed_block blocks lap index = if lap == 0 then get_or blocks index (replicate 16 0) else replicate 16 0

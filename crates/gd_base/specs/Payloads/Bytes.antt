@@ -1,4 +1,4 @@
--- How a payload spells a view, in the draft layout: the fields in a row, each part filled_part up with zeros.
+-- How a payload spells a view, in the draft layout: the fields in a row, each part filled up with zeros.
 use Rattle.std.specs.Prelude.{ℕ, ◌+◌, ◌-◌, ◌*◌, Bool, if◌then◌else◌, List, [], ◌∷◌, ◌++◌, length, replicate, flat_map, Option, Some, None}
 use Rattle.std.specs.Int.{w16, w32, w64, to_be_bytes}
 use Rattle.gd_base.specs.declared.game.Game.{Game}
@@ -23,7 +23,7 @@ four n = to_be_bytes w32 n
 abbrev pub eight : ℕ → List ℕ
 eight n = to_be_bytes w64 n
 
--- bytes filled_part up with zeros
+-- bytes filled up with zeros
 abbrev pub filled_part : ℕ → List ℕ → List ℕ
 filled_part size bytes = bytes ++ replicate (size - length bytes) 0
 

@@ -1,4 +1,4 @@
--- The texts that are shown_total of a view.
+-- The texts that are shown of a view.
 use Rattle.std.specs.Prelude.{ℕ, zero, suc, ◌+◌, ◌-◌, ◌*◌, ◌==◌, ◌/◌, if◌then◌else◌, List, [], ◌∷◌, ◌++◌, length, map, replicate, codes, decimal, get_or, flat_map, Option, Some, None, unwrap_or}
 use Rattle.gd_base.specs.declared.game.Colour.{Colour}
 use Rattle.gd_base.specs.declared.condition.Condition.{Condition}
@@ -140,7 +140,7 @@ door_text n = get_or (map door_name doors) (n - 1) []
 abbrev pub tilt_text : ℕ → List ℕ
 tilt_text n = get_or (map tilt_name tilts) (n - condition_number Condition.BillJam) []
 
--- what event_phrase, by its code and detail
+-- what happened, by its code and detail
 abbrev pub event_phrase : ℕ → ℕ → List ℕ
 event_phrase code detail =
     if code == 1 then codes "start"
