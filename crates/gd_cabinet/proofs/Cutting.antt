@@ -10,8 +10,8 @@ use Rattle.gd_store.specs.Copy.{boots, found_in}
 use Rattle.gd_store.specs.Booting.{IsFound}
 use Rattle.gd_store.specs.Opening.{repairs_of}
 use Rattle.gd_store.specs.Repair.{repaired, syncs_of_repair}
-use Rattle.gd_store.specs.declared.found.Found.{Found}
-use Rattle.gd_store.specs.declared.layout.TheConstants.{LAYOUT}
+use Rattle.gd_store.specs.declared.copy.states.Found.{Found}
+use Rattle.gd_store.specs.declared.copy.layout.TheConstants.{LAYOUT}
 use Rattle.gd_cabinet.specs.Answered.{syncs_of, Made}
 use Rattle.gd_cabinet.specs.Opening.{start_of, start_syncs, opening_syncs}
 use Rattle.gd_cabinet.specs.Opened.{OnOff, OnReady}

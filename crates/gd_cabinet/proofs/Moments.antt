@@ -7,7 +7,7 @@ use Rattle.gd_base.specs.Judging.Machine.{Machine, Blocks}
 use Rattle.gd_base.specs.Payloads.LoadedView.{opens}
 use Rattle.gd_base.specs.Payloads.Spelled.{Shows}
 use Rattle.gd_store.specs.Writing.{KeepsBoot, From}
-use Rattle.gd_store.specs.declared.layout.TheConstants.{LAYOUT}
+use Rattle.gd_store.specs.declared.copy.layout.TheConstants.{LAYOUT}
 use Rattle.gd_cabinet.specs.Shown.{shows, spelled_boot, ShowsEither}
 use Rattle.gd_cabinet.specs.Opening.{IsOpening, KeepsView, started}
 

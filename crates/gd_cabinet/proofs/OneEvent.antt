@@ -1,5 +1,5 @@
 -- What an event that is offered leaves.
-use Rattle.std.proofs.Common.{◌≡◌, ◌∙◌, ◌⊎◌, inl, inr, ⊎_elim, sym, ap, subst, refl, arith, ℕ, List, Result, Ok, Err, Option, Some, None, if◌then◌else◌, ◌&&◌}
+use Rattle.std.proofs.Common.{◌≡◌, ◌∙◌, ◌⊎◌, inl, inr, ⊎_elim, sym, ap, subst, refl, arith, ℕ, ◌+◌, List, Result, Ok, Err, Option, Some, None, if◌then◌else◌, ◌&&◌}
 use Rattle.gd_disk.specs.Disk.{DiskState}
 use Rattle.gd_disk.specs.Runs.{LeavesOnly, CutsOfRun}
 use Rattle.gd_disk.specs.CutRuns.{RunOf}
@@ -13,7 +13,7 @@ use Rattle.gd_base.specs.Payloads.Spelled.{Shows}
 use Rattle.gd_base.specs.declared.step.Numbered.{Numbered}
 use Rattle.gd_base.specs.declared.step.Stepped.{Stepped}
 use Rattle.gd_store.specs.Copy.{boots, HoldsBoth}
-use Rattle.gd_store.specs.declared.layout.TheConstants.{LAYOUT}
+use Rattle.gd_store.specs.declared.copy.layout.TheConstants.{LAYOUT}
 use Rattle.gd_cabinet.specs.Answered.{offered, syncs_of}
 use Rattle.gd_cabinet.specs.Shown.{shows, ShowsEither}
 use Rattle.gd_cabinet.proofs.Showing.{settled_shows}
@@ -32,6 +32,11 @@ pub stepped_view : {V : Type 0} (M : Machine V) (blocks : Blocks) (lap : ℕ) (v
 stepped_view M blocks lap v w e draw s is_draw is_answer is =
     is ∙ ap (λ (d : Option (ℕ × List ℕ)). after_answer M v e d s) is_draw
     ∙ ap (λ (t : Stepped). after_answer M v e (draw_for M blocks lap v e) t) is_answer ∙ same_entry M blocks lap v e (answer M v e)
+
+-- a commit of the payload that spells a view
+pub commit_moments : {V : Type 0} (M : Machine V) (n : ℕ) (p q : List ℕ) (v : V) (s0 s1 : DiskState) → M.spelled q ≡ Shows v → M.count v ≡ n + 1
+    → LeavesOnly s0 s1 (λ c. (boots LAYOUT c ≡ Some (n, p)) ⊎ (boots LAYOUT c ≡ Some (n + 1, q))) → LeavesOnly s0 s1 (λ c. (boots LAYOUT c ≡ Some (n, p)) ⊎ (shows M c ≡ Shows v))
+commit_moments M n p q v s0 s1 spelled count run = weaker s0 s1 _ _ run (λ c either. ⊎_elim (λ old. inl old) (λ new. inr (settled_shows M (n + 1) q v c new spelled count)) either)
 
 -- a commit of the next view
 pub kept_moments : {V : Type 0} (M N : Machine V) (n : ℕ) (p : List ℕ) (v w x : V) (s0 s1 : DiskState) → N ≡ M → w ≡ x → M.spelled p ≡ Shows v → M.count v ≡ n

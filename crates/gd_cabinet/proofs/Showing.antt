@@ -8,9 +8,9 @@ use Rattle.gd_base.specs.declared.step.Loaded.{Loaded}
 use Rattle.gd_disk.specs.Disk.{IfTold}
 use Rattle.gd_store.specs.Booting.{IsFound}
 use Rattle.gd_store.specs.Copy.{boots, found_in}
-use Rattle.gd_store.specs.declared.found.Found.{Found}
-use Rattle.gd_store.specs.declared.layout.Layout.{Layout}
-use Rattle.gd_store.specs.declared.layout.TheConstants.{LAYOUT}
+use Rattle.gd_store.specs.declared.copy.states.Found.{Found}
+use Rattle.gd_store.specs.declared.copy.layout.Layout.{Layout}
+use Rattle.gd_store.specs.declared.copy.layout.TheConstants.{LAYOUT}
 use Rattle.gd_cabinet.specs.Shown.{shows, spelled_boot}
 
 at_count : {V : Type 0} (M : Machine V) (n : ℕ) (v : V) → M.count v ≡ n → at_sequence M n (Shows v) ≡ Shows v
@@ -73,11 +73,11 @@ BootsTo found n p c = IsFound LAYOUT found c × (boots LAYOUT c ≡ Some (n, p))
 -- after reads that change nothing, and a payload that was read, the image shows a view
 pub told_view : {V : Type 0} (M N : Machine V) (found : Found) (n : ℕ) (q p : List ℕ) (r : Loaded) (v : V) (seen now : Option (List ℕ)) → N ≡ M → now ≡ seen → q ≡ p
     → r ≡ load_answer (at_sequence M n (M.spelled q)) → r ≡ Loaded.Read → v ≡ view_loaded M (at_sequence M n (M.spelled q)) → IfTold seen (BootsTo found n p)
-    → IfTold now (λ image. (x : V) × (shows N image ≡ Shows x))
+    → IfTold now (λ image. shows N image ≡ Shows v)
 told_view {V} M N found n q p r v seen now same is_seen is_p answer read view told =
-    subst (λ K. IfTold now (λ image. (x : V) × (shows K image ≡ Shows x))) (sym same)
-    (subst (λ (s : Option (List ℕ)). IfTold s (λ image. (x : V) × (shows M image ≡ Shows x))) (sym is_seen)
-    (told_maps seen (BootsTo found n p) (λ image. (x : V) × (shows M image ≡ Shows x)) (λ image is. (v, loaded_shows M n n q p r v refl is_p answer read view image is.1)) told))
+    subst (λ K. IfTold now (λ image. shows K image ≡ Shows v)) (sym same)
+    (subst (λ (s : Option (List ℕ)). IfTold s (λ image. shows M image ≡ Shows v)) (sym is_seen)
+    (told_maps seen (BootsTo found n p) (λ image. shows M image ≡ Shows v) (λ image is. loaded_shows M n n q p r v refl is_p answer read view image is.1) told))
 
 -- and of a payload that differs
 pub told_differs : {V : Type 0} (M : Machine V) (found : Found) (n : ℕ) (q p kept : List ℕ) (r : Loaded) (seen : Option (List ℕ)) → q ≡ p

@@ -12,8 +12,8 @@ use Rattle.gd_store.specs.Booting.{IsFound}
 use Rattle.gd_store.specs.Copy.{boots}
 use Rattle.gd_store.specs.Opening.{repairs_of}
 use Rattle.gd_store.specs.Repair.{Repair, NoRepair, RepairA, RepairB, repaired, syncs_of_repair}
-use Rattle.gd_store.specs.declared.found.Found.{Found}
-use Rattle.gd_store.specs.declared.layout.TheConstants.{LAYOUT}
+use Rattle.gd_store.specs.declared.copy.states.Found.{Found}
+use Rattle.gd_store.specs.declared.copy.layout.TheConstants.{LAYOUT}
 use Rattle.gd_base.proofs.AnswerLemmas.Answer.{answer_full}
 use Rattle.gd_cabinet.specs.Answered.{syncs_of}
 use Rattle.gd_cabinet.specs.Opened.{OpenedAs, OnReady}

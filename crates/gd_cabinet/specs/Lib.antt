@@ -1,4 +1,5 @@
 pub mod Answered
+pub mod CoreLeft
 pub mod Opened
 pub mod Opening
 pub mod OpeningRuns

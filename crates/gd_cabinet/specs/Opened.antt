@@ -4,8 +4,8 @@ use Rattle.gd_base.specs.Judging.Machine.{Machine, Blocks}
 use Rattle.gd_base.specs.Payloads.LoadedView.{at_sequence}
 use Rattle.gd_base.specs.Payloads.Spelled.{Shows, Foreign, Unreadable}
 use Rattle.gd_store.specs.Copy.{boots, found_in}
-use Rattle.gd_store.specs.declared.layout.TheConstants.{LAYOUT}
-use Rattle.gd_store.specs.declared.found.Found.{Found}
+use Rattle.gd_store.specs.declared.copy.layout.TheConstants.{LAYOUT}
+use Rattle.gd_store.specs.declared.copy.states.Found.{Found}
 use Rattle.gd_cabinet.specs.Opening.{started}
 use Rattle.gd_cabinet.specs.Shown.{shows}
 use Rattle.gd_cabinet.specs.Words.{cabinet_core, cabinet_disk, cabinet_draws}

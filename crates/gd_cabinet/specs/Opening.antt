@@ -9,7 +9,7 @@ use Rattle.gd_base.specs.declared.event.Event.{Event}
 use Rattle.gd_base.specs.declared.step.Numbered.{Numbered}
 use Rattle.gd_store.specs.Copy.{found_in}
 use Rattle.gd_store.specs.Repair.{repaired, syncs_of_repair}
-use Rattle.gd_store.specs.declared.layout.TheConstants.{LAYOUT}
+use Rattle.gd_store.specs.declared.copy.layout.TheConstants.{LAYOUT}
 use Rattle.gd_cabinet.specs.Answered.{offered, syncs_of}
 use Rattle.gd_cabinet.specs.Shown.{shows, ShowsEither}
 

@@ -3,7 +3,8 @@ use Rattle.std.specs.Prelude.{◌≡◌, ◌≤◌, ◌+◌, ℕ, true, Some, No
 use Rattle.gd_base.specs.Judging.Machine.{Machine, Blocks}
 use Rattle.gd_base.specs.Payloads.Spelled.{Shows}
 use Rattle.gd_disk.specs.CutRuns.{IsCompleteRun, RunOf}
-use Rattle.gd_disk.specs.Disk.{DiskState, Answers}
+use Rattle.gd_disk.specs.Disk.{DiskState, Answers, next_count}
+use Rattle.gd_store.specs.Reads.{HasReadFewer}
 use Rattle.gd_store.specs.Repair.{repaired, syncs_of_repair}
 use Rattle.gd_cabinet.specs.Opening.{started, start_syncs}
 use Rattle.gd_cabinet.specs.Words.{cabinet_core}
@@ -25,23 +26,21 @@ OpeningRun M view blocks lap (CabinetOpened.Locked why found parts) old new = (s
 OpeningRun M view blocks lap (CabinetOpened.Differs kept found parts) old new = (syncs : ℕ) × (syncs ≤ 3) × IsCompleteRun syncs old new
 OpeningRun M view blocks lap (CabinetOpened.Off found parts) old new = RunOf {T = Unit {0}} {E = Unit {0}} 9 (Err tt) old new
 
--- both copies were read
+-- the first reading of the copies, which needs the power on: both of its reads were good
 pub record HasRead (old new : DiskState) : Type 0 where
-  pub answer : Answers {T = Unit {0}} {E = Unit {0}} (Ok tt) old new
-  pub seen : new.seen ≡ old.seen
-  pub run : IsCompleteRun 0 old new
+  pub was_on : old.is_on ≡ true
+  pub reads : next_count (next_count old.reads) ≤ new.reads
 
--- the first reading of the copies failed
+-- it failed: none of its reads was good, or one
 pub record HasNotRead (old new : DiskState) : Type 0 where
   pub answer : Answers {T = Unit {0}} {E = Unit {0}} (Err tt) old new
   pub run : RunOf {T = Unit {0}} {E = Unit {0}} 0 (Err tt) old new
+  pub reads : HasReadFewer old.reads new.reads
 
--- The first reading of the copies, which needs the power on. At Off nothing is found where it failed; else it
--- succeeded, and a later call failed.
-abbrev pub FirstReading : {C D W : Type 0} {g h i : _} → CabinetOpened C D W g h i → (D → DiskState) → D → Type 0
-FirstReading (CabinetOpened.Ready cabinet found) state disk = (state disk).is_on ≡ true
-FirstReading (CabinetOpened.Locked why found parts) state disk = (state disk).is_on ≡ true
-FirstReading (CabinetOpened.Differs kept found parts) state disk = (state disk).is_on ≡ true
-FirstReading (CabinetOpened.Off None parts) state disk = HasNotRead (state disk) (state parts.disk)
-FirstReading {D = D} (CabinetOpened.Off (Some found) parts) state disk =
-    (read : D) × HasRead (state disk) (state read) × RunOf {T = Unit {0}} {E = Unit {0}} 9 (Err tt) (state read) (state parts.disk)
+-- At Off nothing is found where the first reading failed. Every other answer comes after both copies were read.
+abbrev pub FirstReading : {C D W : Type 0} {g h i : _} → CabinetOpened C D W g h i → DiskState → DiskState → Type 0
+FirstReading (CabinetOpened.Ready cabinet found) old new = HasRead old new
+FirstReading (CabinetOpened.Locked why found parts) old new = HasRead old new
+FirstReading (CabinetOpened.Differs kept found parts) old new = HasRead old new
+FirstReading (CabinetOpened.Off None parts) old new = HasNotRead old new
+FirstReading (CabinetOpened.Off (Some found) parts) old new = HasRead old new

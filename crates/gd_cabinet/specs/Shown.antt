@@ -4,7 +4,7 @@ use Rattle.gd_base.specs.Judging.Machine.{Machine}
 use Rattle.gd_base.specs.Payloads.LoadedView.{opens}
 use Rattle.gd_base.specs.Payloads.Spelled.{Spelled, Shows}
 use Rattle.gd_store.specs.Copy.{boots, HoldsBoth}
-use Rattle.gd_store.specs.declared.layout.TheConstants.{LAYOUT}
+use Rattle.gd_store.specs.declared.copy.layout.TheConstants.{LAYOUT}
 
 -- what is booted, with what its payload spells in place of the payload
 abbrev pub spelled_boot : {V : Type 0} → Machine V → Option (ℕ × List ℕ) → Option (ℕ × Spelled V)

@@ -1,6 +1,6 @@
 -- What a cabinet holds. Public clauses speak by these words.
 use Rattle.std.specs.Prelude.{ℕ, Bool}
-use Rattle.gd_store.specs.Words.{store_disk, store_stopped}
+use Rattle.gd_store.specs.Store.{store_disk, store_stopped}
 use Rattle.gd_cabinet.specs.declared.cabinet.Cabinet.{Cabinet}
 
 -- the core of a cabinet

@@ -1,12 +1,12 @@
 // The start of a core on a store.
 ghost use Rattle.std.specs.Prelude.{◌≡◌, ◌+◌, Err, IfOk, IfErr, List, ℕ, true, false, length};
 ghost use Rattle.gd_disk.specs.CutRuns.{IsCompleteRun, RunOf};
-ghost use Rattle.gd_disk.specs.Disk.{Rose};
+ghost use Rattle.gd_disk.specs.Disk.{next_count};
 ghost use Rattle.gd_disk.specs.Runs.{LeavesOnly, CutOrFaultIn};
 ghost use Rattle.gd_base.specs.Judging.Answer.{answer, is_new};
 ghost use Rattle.gd_base.specs.Payloads.LoadedView.{at_sequence, view_loaded};
 ghost use Rattle.gd_base.specs.Payloads.Spelled.{Shows, load_answer};
-ghost use Rattle.gd_store.specs.Words.{store_disk, store_payload, store_sequence, store_stopped};
+ghost use Rattle.gd_store.specs.Store.{store_disk, store_payload, store_sequence, store_stopped};
 ghost use Rattle.gd_cabinet.specs.Answered.{syncs_of, Made};
 ghost use Rattle.gd_cabinet.specs.Opening.{start_of, started};
 ghost use Rattle.gd_cabinet.specs.Shown.{ShowsEither, IsInBoth};
@@ -72,16 +72,16 @@ pub(crate) fn begin<C: Core, D: Disk, W: Draws>(
     ensures made { IfOk result (λ cabinet. Made (syncs_of (is_new (answer (C.meaning core) (C.view core) (start_of (C.meaning core) (C.view core))))) (D.state (store_disk store)) (D.state (cabinet_disk cabinet))) }
     ensures outcome { IfOk result (λ cabinet. ((D.state (cabinet_disk cabinet)).stops ≡ (D.state (store_disk store)).stops)
         × ((D.state (cabinet_disk cabinet)).size ≡ (D.state (store_disk store)).size) × ((D.state (cabinet_disk cabinet)).found ≡ (D.state (store_disk store)).found)
-        × ((D.state (cabinet_disk cabinet)).is_on ≡ true)) }
+        × ((D.state (cabinet_disk cabinet)).is_on ≡ true) × ((D.state (cabinet_disk cabinet)).reads ≡ (D.state (store_disk store)).reads)) }
     ensures off_any_moment { IfErr result (λ parts. LeavesOnly (D.state (store_disk store)) (D.state parts.disk)
         (ShowsEither (C.meaning core) (C.view core) (started (C.meaning core) (W.block_of draws) lap (C.view core)))) }
-    ensures off_outcome { IfErr result (λ parts. Rose (D.state (store_disk store)).stops (D.state parts.disk).stops
+    ensures off_outcome { IfErr result (λ parts. ((D.state parts.disk).stops ≡ next_count (D.state (store_disk store)).stops)
         × ((D.state parts.disk).size ≡ (D.state (store_disk store)).size) × ((D.state parts.disk).found ≡ (D.state (store_disk store)).found)
-        × ((D.state parts.disk).is_on ≡ false)) }
+        × ((D.state parts.disk).is_on ≡ false) × ((D.state parts.disk).reads ≡ (D.state (store_disk store)).reads)) }
     ensures cut { IfErr result (λ parts. CutOrFaultIn (syncs_of (is_new (answer (C.meaning core) (C.view core) (start_of (C.meaning core) (C.view core))))) (D.state (store_disk store)) (D.state parts.disk)) }
     ensures run { IfOk result (λ cabinet. IsCompleteRun (syncs_of (is_new (answer (C.meaning core) (C.view core) (start_of (C.meaning core) (C.view core))))) (D.state (store_disk store)) (D.state (cabinet_disk cabinet))) }
     ensures off_run { IfErr result (λ parts. RunOf {T = Unit {0}} {E = Unit {0}} (syncs_of (is_new (answer (C.meaning core) (C.view core) (start_of (C.meaning core) (C.view core))))) (Err tt) (D.state (store_disk store)) (D.state parts.disk)) }
-    ensures off { IfErr result (λ parts. C.meaning parts.core ≡ C.meaning core) }
+    ensures off { IfErr result (λ parts. (C.meaning parts.core ≡ C.meaning core) × (C.view parts.core ≡ C.view core)) }
     ensures off_draws { IfErr result (λ parts. (l i : ℕ) → W.block_of parts.draws l i ≡ W.block_of draws l i) }
 {
     let mut core = core;

@@ -4,8 +4,8 @@ ghost use Rattle.std.specs.Coded.{Coded-set};
 ghost use Rattle.gd_disk.specs.Disk.{IsSynced};
 ghost use Rattle.gd_base.specs.Payloads.Spelled.{Shows, coded_spelled};
 ghost use Rattle.gd_store.specs.Copy.{HoldsBoth};
-ghost use Rattle.gd_store.specs.declared.layout.TheConstants.{LAYOUT};
-ghost use Rattle.gd_store.specs.Words.{store_disk, store_payload, store_sequence, store_stopped};
+ghost use Rattle.gd_store.specs.declared.copy.layout.TheConstants.{LAYOUT};
+ghost use Rattle.gd_store.specs.Store.{store_disk, store_payload, store_sequence, store_stopped};
 
 use crate::Parts;
 use gd_base::{Core, Draws};

@@ -6,7 +6,7 @@ ghost use Rattle.gd_disk.specs.Runs.{LeavesOnly, CutsOfRun};
 ghost use Rattle.gd_base.specs.Judging.Answer.{answer, is_new, draw_for};
 ghost use Rattle.gd_base.specs.Payloads.Spelled.{Shows};
 ghost use Rattle.gd_store.specs.Copy.{boots};
-ghost use Rattle.gd_store.specs.Words.{store_disk, store_payload, store_sequence, store_stopped};
+ghost use Rattle.gd_store.specs.Store.{store_disk, store_payload, store_sequence, store_stopped};
 ghost use Rattle.gd_store.specs.Writing.{MadeSyncs};
 ghost use Rattle.gd_cabinet.specs.Answered.{answered, offered, syncs_of};
 ghost use Rattle.gd_cabinet.specs.Shown.{shows, ShowsEither};
@@ -49,6 +49,7 @@ fn keep<C: Core, D: Disk>(core: &C, store: &mut Store<D>) -> Result<(), Off>
     ensures syncs { MadeSyncs 6 result (D.state (store_disk store.old)) (D.state (store_disk store.new)) }
     ensures cuts { CutsOfRun 6 result (D.state (store_disk store.old)) (D.state (store_disk store.new)) }
     ensures run { RunOf 6 result (D.state (store_disk store.old)) (D.state (store_disk store.new)) }
+    ensures reads { (D.state (store_disk store.new)).reads ≡ (D.state (store_disk store.old)).reads }
 {
     let mut image = [0; PAYLOAD_LEN];
     core.write_image(&mut image);
@@ -80,6 +81,7 @@ pub(crate) fn offer<C: Core, D: Disk, W: Draws>(
     ensures syncs { MadeSyncs (syncs_of (is_new (answer (C.meaning core.old) (C.view core.old) e.now))) result (D.state (store_disk store.old)) (D.state (store_disk store.new)) }
     ensures cuts { CutsOfRun (syncs_of (is_new (answer (C.meaning core.old) (C.view core.old) e.now))) result (D.state (store_disk store.old)) (D.state (store_disk store.new)) }
     ensures run { RunOf (syncs_of (is_new (answer (C.meaning core.old) (C.view core.old) e.now))) result (D.state (store_disk store.old)) (D.state (store_disk store.new)) }
+    ensures reads { (D.state (store_disk store.new)).reads ≡ (D.state (store_disk store.old)).reads }
     ensures no_call { is_new (answer (C.meaning core.old) (C.view core.old) e.now) ≡ false → store_disk store.new ≡ store_disk store.old }
     ensures cause { OnErr result (is_new (answer (C.meaning core.old) (C.view core.old) e.now) ≡ true) }
     ensures meaning { C.meaning core.new ≡ C.meaning core.old }

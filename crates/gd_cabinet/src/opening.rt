@@ -1,13 +1,15 @@
 // The opening of a memory.
 ghost use Rattle.std.specs.Prelude.{◌≡◌, ◌⊎◌, ◌+◌, Some, List, ℕ, true, false};
-ghost use Rattle.gd_disk.specs.Disk.{IfTold, IsSynced, Rose, Unchanged};
+ghost use Rattle.gd_disk.specs.Disk.{IfTold, IsSynced, Rose, Unchanged, next_count};
 ghost use Rattle.gd_disk.specs.Runs.{LeavesOnly, CutOrFaultIn};
 ghost use Rattle.gd_base.specs.Judging.Answer.{is_full};
 ghost use Rattle.gd_base.specs.Payloads.Spelled.{Shows};
 ghost use Rattle.gd_store.specs.Copy.{boots, found_in};
 ghost use Rattle.gd_store.specs.Lost.{IsLost};
 ghost use Rattle.gd_store.specs.Opened.{IsOpenable};
+ghost use Rattle.gd_store.specs.Reads.{HasReadSome};
 ghost use Rattle.gd_store.specs.Writing.{From};
+ghost use Rattle.gd_cabinet.specs.CoreLeft.{LeavesCore};
 ghost use Rattle.gd_cabinet.specs.Answered.{Made};
 ghost use Rattle.gd_cabinet.specs.Opened.{disk_in, core_in, draws_in, OnReady, OnShut, OnOff, OnUnread, OpenedAs};
 ghost use Rattle.gd_cabinet.specs.Opening.{IsOpening, opening_syncs};
@@ -34,7 +36,7 @@ fn open_store<C: Core, D: Disk, W: Draws>(
     requires synced { IsSynced (D.state parts.disk) }
     requires is_on { (D.state parts.disk).is_on ≡ true }
     requires found { IfTold (D.state parts.disk).seen (λ image. found ≡ found_in LAYOUT image) }
-    requires told { IfTold (D.state parts.disk).seen (λ image. (v : _) × (shows (C.meaning parts.core) image ≡ Shows v)) }
+    requires told { IfTold (D.state parts.disk).seen (λ image. shows (C.meaning parts.core) image ≡ Shows (C.view parts.core)) }
     ensures what { IfTold (D.state parts.disk).seen (OpenedAs (C.meaning parts.core) C.view (W.block_of parts.draws) lap result) }
     ensures any_moment { LeavesOnly (D.state parts.disk) (D.state (disk_in result)) (IsOpening (C.meaning parts.core) (W.block_of parts.draws) lap (D.state parts.disk)) }
     ensures ready { OnReady result (λ cabinet found. (cabinet_stopped cabinet ≡ false) × (cabinet_lap cabinet ≡ lap)) }
@@ -43,9 +45,11 @@ fn open_store<C: Core, D: Disk, W: Draws>(
     ensures draws { (l i : ℕ) → W.block_of (draws_in result) l i ≡ W.block_of parts.draws l i }
     ensures not_shut { OnShut result (IfTold (D.state parts.disk).seen (λ image. ⊥)) }
     ensures not_unread { OnUnread result ⊥ }
+    ensures reads { HasReadSome (D.state parts.disk).reads (D.state (disk_in result)).reads }
+    ensures core_left { LeavesCore (C.meaning parts.core) C.view parts.core result (D.state parts.disk).seen }
     ensures stays_on { OnShut result (((D.state (disk_in result)).is_on ≡ true) × ((D.state (disk_in result)).stops ≡ (D.state parts.disk).stops)
         × ((D.state (disk_in result)).faults ≡ (D.state parts.disk).faults)) }
-    ensures cause { OnOff result (Rose (D.state parts.disk).stops (D.state (disk_in result)).stops) }
+    ensures cause { OnOff result ((D.state (disk_in result)).stops ≡ next_count (D.state parts.disk).stops) }
     ensures is_off { OnOff result ((D.state (disk_in result)).is_on ≡ false) }
     ensures cut { OnOff result (IfTold (D.state parts.disk).seen (λ image. CutOrFaultIn (opening_syncs (C.meaning parts.core) image) (D.state parts.disk) (D.state (disk_in result)))) }
     ensures no_stop { OnReady result (λ cabinet found. (D.state (cabinet_disk cabinet)).stops ≡ (D.state parts.disk).stops) }
@@ -73,16 +77,19 @@ fn open_store<C: Core, D: Disk, W: Draws>(
                 room,
             },
         },
-        Opened::Lost { found, disk, room } => CabinetOpened::Locked {
-            why: Locked::Lost,
-            found,
-            parts: Parts {
-                core,
-                disk,
-                draws,
-                room,
-            },
-        },
+        Opened::Lost { found, disk, room } => {
+            core.clear();
+            CabinetOpened::Locked {
+                why: Locked::Lost,
+                found,
+                parts: Parts {
+                    core,
+                    disk,
+                    draws,
+                    room,
+                },
+            }
+        }
         Opened::Ready { store, found } => match load_at(
             &mut core,
             store.payload(),
@@ -131,18 +138,20 @@ impl<C: Core, D: Disk, W: Draws> Cabinet<C, D, W> {
         ensures unwritten { OnShut result (IfTold (D.state parts.disk).seen (λ image. LeavesOnly (D.state parts.disk) (D.state (disk_in result)) (From (D.state parts.disk) Unchanged))) }
         ensures stays_on { OnShut result (((D.state (disk_in result)).is_on ≡ true) × ((D.state (disk_in result)).stops ≡ (D.state parts.disk).stops)
             × ((D.state (disk_in result)).faults ≡ (D.state parts.disk).faults)) }
-        ensures cause { OnOff result (Rose (D.state parts.disk).stops (D.state (disk_in result)).stops) }
+        ensures cause { OnOff result ((D.state (disk_in result)).stops ≡ next_count (D.state parts.disk).stops) }
         ensures is_off { OnOff result ((D.state (disk_in result)).is_on ≡ false) }
         ensures unread { OnUnread result (((D.state (disk_in result)).armed ≡ (D.state parts.disk).armed)
             × ((D.state (disk_in result)).syncs ≡ (D.state parts.disk).syncs)
             × ((D.state parts.disk).is_on ≡ true → Rose (D.state parts.disk).faults (D.state (disk_in result)).faults)) }
+        ensures unread_images { OnUnread result (LeavesOnly (D.state parts.disk) (D.state (disk_in result)) (From (D.state parts.disk) Unchanged)) }
         ensures cut { OnOff result (IfTold (D.state parts.disk).seen (λ image. (D.state parts.disk).is_on ≡ true → CutOrFaultIn (opening_syncs (C.meaning parts.core) image) (D.state parts.disk) (D.state (disk_in result)))) }
         ensures no_stop { OnReady result (λ cabinet found. (D.state (cabinet_disk cabinet)).stops ≡ (D.state parts.disk).stops) }
         ensures is_on { OnReady result (λ cabinet found. (D.state (cabinet_disk cabinet)).is_on ≡ true) }
         ensures made { OnReady result (λ cabinet found. IfTold (D.state parts.disk).seen (λ image. Made (opening_syncs (C.meaning parts.core) image) (D.state parts.disk) (D.state (cabinet_disk cabinet)))) }
         ensures answer_run { OpeningRun (C.meaning parts.core) C.view (W.block_of parts.draws) lap result (D.state parts.disk) (D.state (disk_in result)) }
         ensures run { IfTold (D.state parts.disk).seen (λ image. RunsBy result (opening_syncs (C.meaning parts.core) image) (D.state parts.disk) (D.state (disk_in result))) }
-        ensures first_reading { FirstReading result D.state parts.disk }
+        ensures first_reading { FirstReading result (D.state parts.disk) (D.state (disk_in result)) }
+        ensures core_left { LeavesCore (C.meaning parts.core) C.view parts.core result (D.state parts.disk).seen }
         ensures exactly { IfTold (D.state parts.disk).seen (λ image. AnswersTo result (loading (C.meaning parts.core) (boots LAYOUT image))) }
         ensures lost_exactly { IfTold (D.state parts.disk).seen (λ image. IsLostWhere result (IsLost LAYOUT image)) }
         ensures no_start { OnReady result (λ cabinet found. IfTold (D.state parts.disk).seen (λ image. (v : _) → shows (C.meaning parts.core) image ≡ Shows v
@@ -153,11 +162,14 @@ impl<C: Core, D: Disk, W: Draws> Cabinet<C, D, W> {
         let mut parts = parts;
         match boot(&mut parts.disk, &mut parts.room) {
             Booted::Off => CabinetOpened::Off { found: None, parts },
-            Booted::Lost(found) => CabinetOpened::Locked {
-                why: Locked::Lost,
-                found,
-                parts,
-            },
+            Booted::Lost(found) => {
+                parts.core.clear();
+                CabinetOpened::Locked {
+                    why: Locked::Lost,
+                    found,
+                    parts,
+                }
+            }
             Booted::Ready { found, sequence } => {
                 let Parts {
                     core,

@@ -1,6 +1,6 @@
 // An event that a device numbered.
 ghost use Rattle.std.specs.Prelude.{◌≡◌, ◌≢◌, ◌↔◌, OnOk, OnErr, IfOk, IsOk, IsErr, IsErrOf, List, ℕ, true, false};
-ghost use Rattle.gd_disk.specs.Disk.{Rose};
+ghost use Rattle.gd_disk.specs.Disk.{next_count};
 ghost use Rattle.gd_disk.specs.CutRuns.{RunOf};
 ghost use Rattle.gd_disk.specs.Runs.{LeavesOnly, CutsOfRun};
 ghost use Rattle.gd_base.specs.Judging.Answer.{answer, is_new};
@@ -35,7 +35,7 @@ impl<C: Core, D: Disk, W: Draws> Cabinet<C, D, W> {
             (offered (C.meaning (cabinet_core self.old)) (W.block_of (cabinet_draws self.old)) (cabinet_lap self.old) (C.view (cabinet_core self.old)) e.now)) }
         ensures stopped { IsErrOf result Stop.Stopped ↔ (cabinet_stopped self.old ≡ true) }
         ensures off { IsErr result ↔ (cabinet_stopped self.new ≡ true) }
-        ensures cause { IsErrOf result Stop.Off → Rose (D.state (cabinet_disk self.old)).stops (D.state (cabinet_disk self.new)).stops }
+        ensures cause { IsErrOf result Stop.Off → (D.state (cabinet_disk self.new)).stops ≡ next_count (D.state (cabinet_disk self.old)).stops }
         ensures no_stop { OnOk result ((D.state (cabinet_disk self.new)).stops ≡ (D.state (cabinet_disk self.old)).stops) }
         ensures is_on { OnOk result (((D.state (cabinet_disk self.old)).is_on ≡ true) × ((D.state (cabinet_disk self.new)).is_on ≡ true)) }
         ensures is_off { OnErr result ((D.state (cabinet_disk self.new)).is_on ≡ false) }
@@ -45,9 +45,10 @@ impl<C: Core, D: Disk, W: Draws> Cabinet<C, D, W> {
             result (D.state (cabinet_disk self.old)) (D.state (cabinet_disk self.new)) }
         ensures run { RunOf (syncs_of (is_new (answer (C.meaning (cabinet_core self.old)) (C.view (cabinet_core self.old)) e.now)))
             result (D.state (cabinet_disk self.old)) (D.state (cabinet_disk self.new)) }
+        ensures reads { (D.state (cabinet_disk self.new)).reads ≡ (D.state (cabinet_disk self.old)).reads }
         ensures no_call { is_new (answer (C.meaning (cabinet_core self.old)) (C.view (cabinet_core self.old)) e.now) ≡ false → cabinet_disk self.new ≡ cabinet_disk self.old }
         ensures only_new { IsErrOf result Stop.Off → is_new (answer (C.meaning (cabinet_core self.old)) (C.view (cabinet_core self.old)) e.now) ≡ true }
-        ensures served { cabinet_stopped self.old ≡ false → (Rose (D.state (cabinet_disk self.old)).stops (D.state (cabinet_disk self.new)).stops → ⊥) → IsOk result }
+        ensures served { cabinet_stopped self.old ≡ false → ((D.state (cabinet_disk self.new)).stops ≡ next_count (D.state (cabinet_disk self.old)).stops → ⊥) → IsOk result }
         ensures size { (D.state (cabinet_disk self.new)).size ≡ (D.state (cabinet_disk self.old)).size }
         ensures found { (D.state (cabinet_disk self.new)).found ≡ (D.state (cabinet_disk self.old)).found }
         ensures untouched { IsErrOf result Stop.Stopped → self.new ≡ self.old }

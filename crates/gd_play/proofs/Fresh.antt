@@ -1,4 +1,4 @@
--- A pick or a hold is the first choice of its play.
+-- For callers: a pick or a hold is the first choice of its play.
 use Rattle.std.proofs.Common.{◌≡◌, ◌&&◌, ◌^◌, ℕ, zero, suc, true, nat_lt, nat_le, List, Option, Some, None, refl, ap, ◌∙◌, sym}
 use Rattle.gd_base.proofs.BoolTests.{both}
 use Rattle.gd_base.specs.declared.event.Event.{Event}

@@ -1,4 +1,5 @@
 pub mod Fresh
-pub mod Held
-pub mod Phases
+mod Held
+mod Phases
+mod ToyLemmas
 pub mod Turns

@@ -1,4 +1,4 @@
--- One gamble turn more: it may come, and the turns before it stay as they were.
+-- For callers: one gamble turn more. It may come, and the turns before it stay as they were.
 use Rattle.std.proofs.Common.{◌≡◌, ◌≢◌, ◌==◌, ◌&&◌, ◌<◌, ◌≤◌, ◌+◌, ◌-◌, ◌*◌, ◌/◌, ◌%◌, ◌^◌, ℕ, zero, suc, Bool, true, not, nat_lt, List, Option, Some, None, refl, ap, ◌∙◌, arith, add-one}
 use Rattle.std.specs.Prelude.{if◌then◌else◌}
 use Rattle.std.proofs.Math.Nat.{pow-suc, add-mul-div_right}

@@ -1,4 +1,5 @@
--- What a machine's play is in a history: an event is judged by the rule, and the play that is open then is the history's.
+-- What a machine's play is in a history: an event is judged by the rule, and the play that is open then is the
+-- history's.
 use Rattle.std.specs.Prelude.{◌≡◌, ℕ, Bool, true, false, IsTrue, if◌then◌else◌, Option, Some, None, option_map}
 use Rattle.gd_base.specs.declared.event.Event.{Event}
 use Rattle.gd_base.specs.declared.play.PlayRecord.{PlayRecord}
@@ -13,7 +14,7 @@ use Rattle.gd_base.specs.Judging.Rule.{rule}
 use Rattle.gd_base.specs.Games.Stage.{is_stage}
 use Rattle.gd_base.specs.Histories.View.{View}
 use Rattle.gd_play.specs.Judging.{refusal, reply_of}
-use Rattle.gd_play.specs.Moving.{replayed, play_after, phase_after, phase_of}
+use Rattle.gd_play.specs.Moving.{play_with_round, play_after, phase_after, phase_of}
 
 -- the events that move an open play on
 abbrev pub is_move : Event → Bool
@@ -29,19 +30,23 @@ JudgesAsRule =
     (setup : Setup) (v : View) (event : Event) → IsTrue (is_move event) → lock v ≡ None
     → rule setup v event ≡ reply_of (refusal v.play (phase_of setup v.play) event)
 
--- the round of a play, by whether it has ended
-abbrev pub going_on : StageOpen → Option PlayRecord → Option Round
-going_on phase play = if is_stage phase StageOpen.Ended then None else option_map round_of play
+-- the round of a play, where it goes on
+abbrev pub open_round_of : StageOpen → Option PlayRecord → Option Round
+open_round_of phase play = if is_stage phase StageOpen.Ended then None else option_map round_of play
 
-abbrev pub gone : StageOpen → Option PlayRecord → Option Round
-gone phase play = if is_stage phase StageOpen.Ended then option_map round_of play else None
+-- and where it has ended
+abbrev pub ended_round_of : StageOpen → Option PlayRecord → Option Round
+ended_round_of phase play = if is_stage phase StageOpen.Ended then option_map round_of play else None
 
 -- After a taken event the machine's play is the history's open one, or the one that the entry ended.
 abbrev pub MovesAsHistory : Type 0
 MovesAsHistory =
-    (setup : Setup) (e : Entry) (place : ℕ) (play : Option PlayRecord) → IsTrue (is_move e.event) → IsTrue (is_taken e.reply)
-    → (open_after setup e place (option_map round_of play) ≡ going_on (phase_after setup e.event play) (play_after setup e.event play))
-    × (ended_after setup e place (option_map round_of play) ≡ gone (phase_after setup e.event play) (play_after setup e.event play))
+    (setup : Setup) (e : Entry) (place : ℕ) (play : Option PlayRecord)
+    → IsTrue (is_move e.event) → IsTrue (is_taken e.reply)
+    → (open_after setup e place (option_map round_of play)
+    ≡ open_round_of (phase_after setup e.event play) (play_after setup e.event play))
+    × (ended_after setup e place (option_map round_of play)
+    ≡ ended_round_of (phase_after setup e.event play) (play_after setup e.event play))
 
 -- A play that begins is the round that its Play opens in a history, and it is over exactly where that Play ends it.
 abbrev pub BeginsAsHistory : Type 0
@@ -54,5 +59,6 @@ BeginsAsHistory =
 abbrev pub KeepsRecord : Type 0
 KeepsRecord =
     (setup : Setup) (p : PlayRecord) (event : Event) (r : Round) → p.wager ≡ wager setup p.bet
-    → (replayed setup p (round_of p) ≡ play_record setup (p.number, p.before) p.after (round_of p))
-    × (IsTrue (is_move event) → moved_round p.place None (Some (round_of p)) event ≡ Some r → replayed setup p r ≡ play_record setup (p.number, p.before) p.after r)
+    → (play_with_round setup p (round_of p) ≡ play_record setup (p.number, p.before) p.after (round_of p))
+    × (IsTrue (is_move event) → moved_round p.place None (Some (round_of p)) event ≡ Some r
+    → play_with_round setup p r ≡ play_record setup (p.number, p.before) p.after r)

@@ -34,9 +34,9 @@ refusal None phase event = Some Refusal.NoPlay
 refusal (Some p) phase event = unless (asks_for phase event) Refusal.BadChoice
 
 -- a refusal, or the stage that is open afterwards
-abbrev pub judged : Option Refusal → StageOpen → Result StageOpen Refusal
-judged None phase = Ok phase
-judged (Some why) phase = Err why
+abbrev pub judgement : Option Refusal → StageOpen → Result StageOpen Refusal
+judgement None phase = Ok phase
+judgement (Some why) phase = Err why
 
 abbrev pub reply_of : Option Refusal → Reply
 reply_of None = Reply.Taken

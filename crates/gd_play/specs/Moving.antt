@@ -7,14 +7,19 @@ use Rattle.gd_base.specs.declared.setup.Setup.{Setup}
 use Rattle.gd_base.specs.Histories.Rounds.{Round, round_of, round_stage, moved_round, is_over}
 
 -- a play with the choices of a round, and with the win of their stage
-abbrev pub replayed : Setup → PlayRecord → Round → PlayRecord
-replayed setup p r =
-    record p { choice = r.choices.choice; turns = r.choices.turns; colours = r.choices.colours; win = (round_stage setup r).win }
+abbrev pub play_with_round : Setup → PlayRecord → Round → PlayRecord
+play_with_round setup p r =
+    record p {
+      choice = r.choices.choice;
+      turns = r.choices.turns;
+      colours = r.choices.colours;
+      win = (round_stage setup r).win;
+    }
 
 -- the open play after an event that moves it on
 abbrev pub play_after : Setup → Event → Option PlayRecord → Option PlayRecord
 play_after setup event None = None
-play_after setup event (Some p) = option_map (replayed setup p) (moved_round p.place None (Some (round_of p)) event)
+play_after setup event (Some p) = option_map (play_with_round setup p) (moved_round p.place None (Some (round_of p)) event)
 
 -- the stage that is open in a round after an event: none where the event ends the play
 abbrev pub stage_left : Setup → Event → Option Round → StageOpen
@@ -31,5 +36,5 @@ phase_of setup None = StageOpen.Ended
 phase_of setup (Some p) = (round_stage setup (round_of p)).phase
 
 -- a play as it is handed out: with the balance after the entry that ended it
-abbrev pub finished : ℕ → PlayRecord → PlayRecord
-finished after p = record p { after = after }
+abbrev pub play_with_after : ℕ → PlayRecord → PlayRecord
+play_with_after after p = record p { after = after }

@@ -6,7 +6,7 @@ ghost use Rattle.gd_play.specs.Judging.{is_choosing, choice_in, asks_for};
 
 use gd_base::{Choices, Colour, Event, PlayRecord, StageOpen};
 
-// The choice that a pick or a hold makes, if the stage asks for it.
+/// The choice that a pick or a hold makes, if the stage asks for it.
 pub(crate) fn choice_of(phase: StageOpen, event: Event) -> Option<u8>
     requires { IsTrue (is_choosing event) }
     ensures { result ≡ if asks_for phase event then Some (choice_in event) else None }
@@ -18,7 +18,7 @@ pub(crate) fn choice_of(phase: StageOpen, event: Event) -> Option<u8>
     }
 }
 
-// The colours with that of one turn more: bit t - 1 is 1 for black in turn t.
+/// The colours with that of one turn more: bit t - 1 is 1 for black in turn t.
 pub(crate) fn with_colour(colours: u8, turns: u8, colour: Colour) -> u8
     requires turns { turns < 5 }
     requires colours { colours < 2 ^ turns }
@@ -30,7 +30,7 @@ pub(crate) fn with_colour(colours: u8, turns: u8, colour: Colour) -> u8
     }
 }
 
-// The choices of a play.
+/// The choices of a play.
 pub(crate) fn choices(play: &PlayRecord) -> Choices
     ensures { result ≡ choices_of play.now }
 {

@@ -5,12 +5,12 @@ ghost use Rattle.gd_base.specs.Payloads.ViewRules.{is_open_as};
 ghost use Rattle.gd_play.specs.Moving.{phase_of};
 ghost use Rattle.gd_play.specs.Rules.{are_kept, is_open_play};
 
-use super::choosing::{choice_of, choices, with_colour};
-use super::paytable::Paytable;
+use crate::choosing::{choice_of, choices, with_colour};
+use crate::paytable::Paytable;
 use gd_base::{Colour, Event, PlayRecord, Refusal, StageOpen};
 
-/// The one play that was begun and not yet handed out, over a paytable. What its stages are depends on its recorded words,
-/// its choices and the setup of the paytable alone. No call takes memory.
+/// The one play that was begun and not yet handed out, over a paytable. What its stages are depends on its recorded
+/// words, its choices and the setup of the paytable alone. No call takes memory.
 #[derive(Drop)]
 pub struct PlayMachine<P: Paytable> {
     table: P,
@@ -24,12 +24,12 @@ impl<P: Paytable> PlayMachine<P> {
     ghost use Rattle.gd_base.specs.declared.play.StageOpen.{StageOpen};
     ghost use Rattle.gd_base.specs.Histories.Rounds.{round_of, choices_of, no_choices};
     ghost use Rattle.gd_base.specs.Games.Stage.{is_bet, are_choices};
-    ghost use Rattle.gd_play.specs.Judging.{is_choosing, refusal, judged};
-    ghost use Rattle.gd_play.specs.Moving.{replayed, play_after, phase_after, finished};
+    ghost use Rattle.gd_play.specs.Judging.{is_choosing, refusal, judgement};
+    ghost use Rattle.gd_play.specs.Moving.{play_with_round, play_after, phase_after, play_with_after};
     ghost use Rattle.gd_play.specs.Words.{machine_table, machine_play, machine_phase};
 
-    /// A machine with this open play, or with none. The play keeps the rules of an open play in a payload, and its stage
-    /// isn't Ended.
+    /// A machine with this open play, or with none. The play keeps the rules of an open play in a payload, and its
+    /// stage isn't Ended.
     pub fn from_parts(table: P, open_play: Option<PlayRecord>) -> Self
         requires games { IsTrue (is_open_as (λ p. P.has_game table p.game) open_play) }
         requires rules { IsTrue (is_open_as (is_open_play (P.setup table)) open_play) }
@@ -54,21 +54,23 @@ impl<P: Paytable> PlayMachine<P> {
         requires win { play.now.win ≡ 0 }
         requires after { play.now.after ≡ 0 }
         ensures answer { result ≡ phase_of (P.setup (machine_table self.old)) (Some play.now) }
-        ensures play { machine_play self.new ≡ Some (replayed (P.setup (machine_table self.old)) play.now (round_of play.now)) }
+        ensures play { machine_play self.new ≡
+            Some (play_with_round (P.setup (machine_table self.old)) play.now (round_of play.now)) }
         ensures phase { machine_phase self.new ≡ result }
         ensures table { machine_table self.new ≡ machine_table self.old }
     {
         self.go_on(*play)
     }
 
-    /// Keeps the choice of a Pick or a Hold. It is refused with NoPlay where there is no play, else with BadChoice where the
-    /// stage isn't the one of the choice, or the door isn't 1 to 5, or the mask is above 31; then nothing changes. The answer
-    /// is the stage that is open then.
+    /// Keeps the choice of a Pick or a Hold. It is refused with NoPlay where there is no play, else with BadChoice
+    /// where the stage isn't the one of the choice, or the door isn't 1 to 5, or the mask is above 31; then nothing
+    /// changes. The answer is the stage that is open then.
     pub fn choose(&mut self, event: &Event) -> Result<StageOpen, Refusal>
         requires { IsTrue (is_choosing event.now) }
-        ensures answer { result ≡ judged (refusal (machine_play self.old) (machine_phase self.old) event.now)
+        ensures answer { result ≡ judgement (refusal (machine_play self.old) (machine_phase self.old) event.now)
             (phase_after (P.setup (machine_table self.old)) event.now (machine_play self.old)) }
-        ensures play { OnOk result (machine_play self.new ≡ play_after (P.setup (machine_table self.old)) event.now (machine_play self.old)) }
+        ensures play { OnOk result (machine_play self.new ≡
+            play_after (P.setup (machine_table self.old)) event.now (machine_play self.old)) }
         ensures phase { IfOk result (λ phase. machine_phase self.new ≡ phase) }
         ensures stays { OnErr result (self.new ≡ self.old) }
         ensures table { machine_table self.new ≡ machine_table self.old }
@@ -85,12 +87,14 @@ impl<P: Paytable> PlayMachine<P> {
         }))
     }
 
-    /// Keeps one turn of gamble. It is refused with NoPlay where there is no play, else with BadChoice where the stage isn't
-    /// that of gamble; then nothing changes. The answer is the stage that is open then.
+    /// Keeps one turn of gamble. It is refused with NoPlay where there is no play, else with BadChoice where the stage
+    /// isn't that of gamble; then nothing changes. The answer is the stage that is open then.
     pub fn gamble(&mut self, colour: Colour) -> Result<StageOpen, Refusal>
-        ensures answer { result ≡ judged (refusal (machine_play self.old) (machine_phase self.old) (Event.Gamble colour))
+        ensures answer { result ≡ judgement
+            (refusal (machine_play self.old) (machine_phase self.old) (Event.Gamble colour))
             (phase_after (P.setup (machine_table self.old)) (Event.Gamble colour) (machine_play self.old)) }
-        ensures play { OnOk result (machine_play self.new ≡ play_after (P.setup (machine_table self.old)) (Event.Gamble colour) (machine_play self.old)) }
+        ensures play { OnOk result (machine_play self.new ≡
+            play_after (P.setup (machine_table self.old)) (Event.Gamble colour) (machine_play self.old)) }
         ensures phase { IfOk result (λ phase. machine_phase self.new ≡ phase) }
         ensures stays { OnErr result (self.new ≡ self.old) }
         ensures table { machine_table self.new ≡ machine_table self.old }
@@ -108,12 +112,13 @@ impl<P: Paytable> PlayMachine<P> {
         }))
     }
 
-    /// Ends the play with its win. It is refused with NoPlay where there is no play, else with BadChoice where the stage
-    /// isn't that of gamble; then nothing changes. The answer is Ended.
+    /// Ends the play with its win. It is refused with NoPlay where there is no play, else with BadChoice where the
+    /// stage isn't that of gamble; then nothing changes. The answer is Ended.
     pub fn take(&mut self) -> Result<StageOpen, Refusal>
-        ensures answer { result ≡ judged (refusal (machine_play self.old) (machine_phase self.old) Event.Take)
+        ensures answer { result ≡ judgement (refusal (machine_play self.old) (machine_phase self.old) Event.Take)
             (phase_after (P.setup (machine_table self.old)) Event.Take (machine_play self.old)) }
-        ensures play { OnOk result (machine_play self.new ≡ play_after (P.setup (machine_table self.old)) Event.Take (machine_play self.old)) }
+        ensures play { OnOk result (machine_play self.new ≡
+            play_after (P.setup (machine_table self.old)) Event.Take (machine_play self.old)) }
         ensures phase { IfOk result (λ phase. machine_phase self.new ≡ phase) }
         ensures stays { OnErr result (self.new ≡ self.old) }
         ensures table { machine_table self.new ≡ machine_table self.old }
@@ -139,7 +144,7 @@ impl<P: Paytable> PlayMachine<P> {
     pub fn finish(&mut self, after: u64) -> PlayRecord
         requires play { IsSome (machine_play self.old) }
         requires ended { machine_phase self.old ≡ StageOpen.Ended }
-        ensures record { option_map (finished after) (machine_play self.old) ≡ Some result }
+        ensures record { option_map (play_with_after after) (machine_play self.old) ≡ Some result }
         ensures none { machine_play self.new ≡ None }
         ensures phase { machine_phase self.new ≡ StageOpen.Ended }
         ensures table { machine_table self.new ≡ machine_table self.old }
@@ -151,13 +156,15 @@ impl<P: Paytable> PlayMachine<P> {
         PlayRecord { after, ..play }
     }
 
-    // Puts a play in place, with the win of its stage. The answer is that stage.
+    /// Puts a play in place, with the win of its stage. The answer is that stage.
     fn go_on(&mut self, play: PlayRecord) -> StageOpen
         requires game { IsTrue (P.has_game (machine_table self.old) play.game) }
         requires bet { IsTrue (is_bet play.game play.bet) }
-        requires choices { IsTrue (are_choices (P.setup (machine_table self.old)) play.game play.bet play.words (choices_of play)) }
+        requires choices { IsTrue
+            (are_choices (P.setup (machine_table self.old)) play.game play.bet play.words (choices_of play)) }
         ensures answer { result ≡ phase_of (P.setup (machine_table self.old)) (Some play) }
-        ensures play { machine_play self.new ≡ Some (replayed (P.setup (machine_table self.old)) play (round_of play)) }
+        ensures play { machine_play self.new ≡
+            Some (play_with_round (P.setup (machine_table self.old)) play (round_of play)) }
         ensures phase { machine_phase self.new ≡ result }
         ensures table { machine_table self.new ≡ machine_table self.old }
     {
@@ -173,7 +180,7 @@ impl<P: Paytable> PlayMachine<P> {
     }
 }
 
-// The stage that is open in a play, if there is one.
+/// The stage that is open in a play, if there is one.
 fn open_phase<P: Paytable>(table: &P, play: &Option<PlayRecord>) -> StageOpen
     requires games { IsTrue (is_open_as (λ p. P.has_game table.now p.game) play.now) }
     requires rules { IsTrue (is_open_as (is_open_play (P.setup table.now)) play.now) }

@@ -1,2 +1,2 @@
-pub mod Five
-pub mod Greatest
+mod Five
+mod Greatest

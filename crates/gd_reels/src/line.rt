@@ -1,11 +1,12 @@
 //! What a line pays.
+
 ghost use Rattle.std.specs.Prelude.{◌≡◌, ◌≤◌, ◌-◌, [], get_or, nat_lt, IsTrue};
 ghost use Rattle.std.specs.List.{list_all};
 ghost use Rattle.gd_base.specs.Games.Chance.{letters_on as letters_of, run_length as run_length_of, pay_of_run as pay_of, line_pay as line_pay_of};
 ghost use Rattle.gd_base.specs.Setups.SetupRules.{are_small};
 ghost use Rattle.gd_base.specs.declared.tables.TheConstants.{LINES};
 
-use super::face::Window;
+use crate::windows::Window;
 use gd_base::{LINES, SYMBOLS, Setup};
 
 /// The win of a line, from 1 to 9, in credits: the greatest that one of the seven symbols pays on it.
@@ -24,7 +25,7 @@ pub fn line_pay(setup: &Setup, window: &Window, line: u8) -> u32
     u32::from(best)
 }
 
-// The letters on a line, from the left.
+/// The letters on a line, from the left.
 fn letters_on(window: &Window, line: u8) -> [u8; 5]
     requires low { 1 ≤ line }
     requires high { line ≤ 9 }
@@ -33,7 +34,7 @@ fn letters_on(window: &Window, line: u8) -> [u8; 5]
     letters_at(window, &LINES[usize::from(line - 1)])
 }
 
-// The letters of these rows on the reels from the left.
+/// The letters of these rows on the reels from the left.
 fn letters_at(window: &Window, rows: &[u8; 5]) -> [u8; 5]
     requires { IsTrue (list_all (λ r. nat_lt r 3) rows.now) }
     ensures { result ≡ letters_of window.now.rows 0 rows.now }
@@ -47,7 +48,7 @@ fn letters_at(window: &Window, rows: &[u8; 5]) -> [u8; 5]
     ]
 }
 
-// How many letters from the left are this symbol or wild.
+/// How many letters from the left are this symbol or wild.
 fn run_length(symbol: u8, letters: &[u8; 5]) -> usize
     ensures length { result ≡ run_length_of symbol letters.now }
     ensures most { result ≤ 5 }
@@ -58,7 +59,7 @@ fn run_length(symbol: u8, letters: &[u8; 5]) -> usize
         .count()
 }
 
-// The pay of a run by the pays for three, four and five letters.
+/// The pay of a run by the pays for three, four and five letters.
 fn pay_of_run(pays: &[u16; 3], run: usize) -> u16
     requires run { run ≤ 5 }
     requires small { IsTrue (are_small pays.now) }

@@ -1,4 +1,5 @@
 //! The prizes of the pick.
+
 ghost use Rattle.std.specs.Prelude.{◌≡◌, ◌≤◌};
 ghost use Rattle.gd_base.specs.Games.Chance.{prize as prize_of};
 

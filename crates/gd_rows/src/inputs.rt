@@ -1,4 +1,5 @@
-// Sources that give a script in pieces, or one line without end.
+//! Sources that give a script in pieces, or one line without end.
+
 ghost use Rattle.std.specs.Prelude.{None};
 ghost use Rattle.std.specs.Io.KnownBytes.{ReadConsumes};
 ghost use Rattle.std.specs.Io.{ReadsAtMost};
@@ -6,10 +7,10 @@ ghost use Rattle.gd_base.specs.Outside.Causes.{HasCause};
 
 use gd_base::{Failed, MemorySource, Source};
 
-// The most bytes of a piece.
+/// The most bytes of a piece.
 const PIECE_LEN: usize = 16;
 
-// Bytes in memory in pieces of at most `most`. It doesn't tell what is left.
+/// Bytes in memory in pieces of at most `most`. It doesn't tell what is left.
 #[derive(Drop)]
 pub(crate) struct Pieces {
     pub(crate) bytes: MemorySource,
@@ -30,7 +31,7 @@ impl Source for Pieces {
     }
 }
 
-// So many empty lines. It doesn't tell what is left.
+/// So many empty lines. It doesn't tell what is left.
 #[derive(Drop)]
 pub(crate) struct EmptyLines {
     pub(crate) lines: usize,

@@ -1,4 +1,5 @@
-// Runs of the program over what is in memory, and what they leave.
+//! Runs of the program over what is in memory, and what they leave.
+
 ghost use Rattle.std.specs.Prelude.{◌≡◌, [], true};
 
 use gd_base::{Draws, ListDraws, MemorySink, MemorySource, Source};
@@ -9,7 +10,10 @@ use std::alloc::Global;
 use std::process::Abort;
 use std::test::Fail;
 
-// How a trial went.
+/// The lines of each report before those of the script.
+const OPENING: [&str; 2] = ["power 1: a sound 0, b sound 0", "start at 1"];
+
+/// How a trial went.
 #[derive(Drop)]
 pub(crate) struct Run<L> {
     pub(crate) status: Status,
@@ -17,7 +21,7 @@ pub(crate) struct Run<L> {
     pub(crate) lab: L,
 }
 
-// Runs the program over a laboratory, with room for as many bytes of output. Each block is of zeros.
+/// Runs the program over a laboratory, with room for as many bytes of output. Each block is of zeros.
 pub(crate) fn trial<S: Source + Drop, L: LabDisk + Drop>(
     alloc: Global,
     words: &[&str],
@@ -30,15 +34,14 @@ pub(crate) fn trial<S: Source + Drop, L: LabDisk + Drop>(
     requires armed { (L.state lab).armed ≡ [] }
     requires found { (L.state lab).found ≡ [] }
 {
-    let draws = ListDraws::of(Vec::new(alloc));
-    trial_with_draws(alloc, words, script, room, lab, draws)
+    trial_with_draws(alloc, words, script, room, lab, zeros(alloc))
 }
 
-// The same with the blocks of these draws.
+/// The same with the blocks of these draws.
 pub(crate) fn trial_with_draws<S: Source + Drop, L: LabDisk + Drop, W: Draws + Drop>(
     alloc: Global,
     words: &[&str],
-    script: S,
+    mut script: S,
     room: usize,
     lab: L,
     draws: W,
@@ -48,7 +51,6 @@ pub(crate) fn trial_with_draws<S: Source + Drop, L: LabDisk + Drop, W: Draws + D
     requires armed { (L.state lab).armed ≡ [] }
     requires found { (L.state lab).found ≡ [] }
 {
-    let mut script = script;
     let mut setup = MemorySource::of(Vec::new(alloc), None);
     let mut output = MemorySink::with_room(alloc, room)?;
     let disk = MemoryDisk::of(vec![in alloc; 0; DISK_LEN as usize]?, None);
@@ -69,14 +71,18 @@ pub(crate) fn trial_with_draws<S: Source + Drop, L: LabDisk + Drop, W: Draws + D
     })
 }
 
-// Both copies are sound at this count.
+/// Draws of which each block is of zeros.
+pub(crate) fn zeros(alloc: Global) -> ListDraws {
+    ListDraws::of(Vec::new(alloc))
+}
+
+/// Both copies are sound at this count.
 pub(crate) fn are_sound<L: LabDisk + Drop>(
     rt: &impl Abort,
     alloc: Global,
-    lab: L,
+    mut lab: L,
     count: u64,
 ) -> Result<(), Fail> {
-    let mut lab = lab;
     let mut room = Room::new(alloc)?;
     if lab.len() != DISK_LEN {
         return Err(Fail::new("another length"));
@@ -92,9 +98,26 @@ pub(crate) fn are_sound<L: LabDisk + Drop>(
     }
 }
 
-// The bytes of a script.
-pub(crate) fn script(alloc: Global, bytes: &[u8]) -> Result<MemorySource, Fail> {
-    let mut script = Vec::new(alloc);
-    script.extend_from_slice(bytes)?;
-    Ok(MemorySource::of(script, None))
+/// These lines, each with its LF.
+pub(crate) fn lines(alloc: Global, lines: &[&str]) -> Result<Vec<u8>, Fail> {
+    let mut bytes = Vec::new(alloc);
+    push_lines(&mut bytes, lines)?;
+    Ok(bytes)
+}
+
+/// The report of these lines behind those of the opening.
+pub(crate) fn report(alloc: Global, lines: &[&str]) -> Result<Vec<u8>, Fail> {
+    let mut bytes = Vec::new(alloc);
+    push_lines(&mut bytes, &OPENING)?;
+    push_lines(&mut bytes, lines)?;
+    Ok(bytes)
+}
+
+/// Appends lines, each with its LF.
+fn push_lines(bytes: &mut Vec<u8>, lines: &[&str]) -> Result<(), Fail> {
+    for line in lines {
+        bytes.extend_from_slice(line.as_bytes())?;
+        bytes.push(b'\n')?;
+    }
+    Ok(())
 }

@@ -1,125 +1,259 @@
-// What no clause says: that a run with ample memory meets no want of it, and the reports as the formats have them.
-use crate::runs::{are_sound, script, trial, trial_with_draws};
-use gd_base::{Block, ChaChaDraws, ListDraws, MemorySource};
+//! What no clause says: that a run with ample memory meets no want of it, and the reports as the formats have them.
+
+use crate::runs::{are_sound, lines, report, trial, trial_with_draws, zeros};
+use gd_base::{Block, ChaChaDraws, Draws, ListDraws, MemorySource};
 use gd_disk::{DISK_LEN, LabDisk, MemoryLab};
 use gd_top::Status;
 use std::alloc::Global;
 use std::process::Abort;
 use std::test::Fail;
 
+/// A trial over a new memory.
+#[derive(Drop)]
+struct Trial<'a> {
+    /// The lines of the script.
+    script: &'a [&'a str],
+    status: Status,
+    /// The lines of the report behind those of the opening.
+    report: &'a [&'a str],
+    /// The count at which both copies are sound. None where the power is off at the end.
+    entries: Option<u64>,
+}
+
+/// The most bytes of a report.
+const ROOM: usize = 1000;
+
+/// Runs a trial with these draws: its status, its report and what it leaves are as wanted.
+fn expect<W: Draws + Drop>(
+    rt: &impl Abort,
+    alloc: Global,
+    draws: W,
+    wanted: &Trial,
+) -> Result<(), Fail> {
+    let script = MemorySource::of(lines(alloc, wanted.script)?, None);
+    let lab = MemoryLab::new(alloc, DISK_LEN)?;
+    let run = trial_with_draws(alloc, &["trial"], script, ROOM, lab, draws)?;
+    assert_eq!(rt; run.status, wanted.status);
+    let report = report(alloc, wanted.report)?;
+    assert_eq!(rt; run.output.bytes(), report.as_slice());
+    match wanted.entries {
+        Some(count) => are_sound(rt, alloc, run.lab, count),
+        None => {
+            assert_eq!(rt; run.lab.powered(), false);
+            Ok(())
+        }
+    }
+}
+
 #[test]
 fn one_bill_and_meters(rt: HostRuntime) -> Result<(), Fail> {
-    let alloc = rt.alloc();
-    let lines = script(alloc, b"bill 500\nshow meters\n")?;
-    let lab = MemoryLab::new(alloc, DISK_LEN)?;
-    let run = trial(alloc, &["trial"], lines, 1000, lab)?;
-    assert_eq!(rt; run.status, Status::Done);
-    assert_eq!(rt;
-        run.output.bytes(),
-        b"power 1: a sound 0, b sound 0\nstart at 1\nack bill 1 taken at 2\nBillIn 0000000500\nCoinIn 0000000000\nVoucherIn 0000000000\nWagered 0000000000\nWon 0000000000\nVoucherOut 0000000000\nCoinOut 0000000000\nHandWin 0000000000\nHandCancel 0000000000\nGamesPlayed 0000000000\nGamesWon 0000000000\nPowerUps 0000000001\nLogicOpen 0000000000\nMainOpen 0000000000\nCashboxOpen 0000000000\nDropOpen 0000000000\nend at 2 credit 500\n".as_slice()
-    );
-    are_sound(&rt, alloc, run.lab, 2)
+    let wanted = Trial {
+        script: &["bill 500", "show meters"],
+        status: Status::Done,
+        report: &[
+            "ack bill 1 taken at 2",
+            "BillIn 0000000500",
+            "CoinIn 0000000000",
+            "VoucherIn 0000000000",
+            "Wagered 0000000000",
+            "Won 0000000000",
+            "VoucherOut 0000000000",
+            "CoinOut 0000000000",
+            "HandWin 0000000000",
+            "HandCancel 0000000000",
+            "GamesPlayed 0000000000",
+            "GamesWon 0000000000",
+            "PowerUps 0000000001",
+            "LogicOpen 0000000000",
+            "MainOpen 0000000000",
+            "CashboxOpen 0000000000",
+            "DropOpen 0000000000",
+            "end at 2 credit 500",
+        ],
+        entries: Some(2),
+    };
+    expect(&rt, rt.alloc(), zeros(rt.alloc()), &wanted)
 }
 
 #[test]
 fn power_cut_at_rest(rt: HostRuntime) -> Result<(), Fail> {
-    let alloc = rt.alloc();
-    let lines = script(alloc, b"bill 500\noff\non\nshow meters\n")?;
-    let lab = MemoryLab::new(alloc, DISK_LEN)?;
-    let run = trial(alloc, &["trial"], lines, 1000, lab)?;
-    assert_eq!(rt; run.status, Status::Done);
-    assert_eq!(rt;
-        run.output.bytes(),
-        b"power 1: a sound 0, b sound 0\nstart at 1\nack bill 1 taken at 2\noff\npower 2: a sound 2, b sound 2\nstart at 3\nBillIn 0000000500\nCoinIn 0000000000\nVoucherIn 0000000000\nWagered 0000000000\nWon 0000000000\nVoucherOut 0000000000\nCoinOut 0000000000\nHandWin 0000000000\nHandCancel 0000000000\nGamesPlayed 0000000000\nGamesWon 0000000000\nPowerUps 0000000002\nLogicOpen 0000000000\nMainOpen 0000000000\nCashboxOpen 0000000000\nDropOpen 0000000000\nend at 3 credit 500\n".as_slice()
-    );
-    are_sound(&rt, alloc, run.lab, 3)
+    let wanted = Trial {
+        script: &["bill 500", "off", "on", "show meters"],
+        status: Status::Done,
+        report: &[
+            "ack bill 1 taken at 2",
+            "off",
+            "power 2: a sound 2, b sound 2",
+            "start at 3",
+            "BillIn 0000000500",
+            "CoinIn 0000000000",
+            "VoucherIn 0000000000",
+            "Wagered 0000000000",
+            "Won 0000000000",
+            "VoucherOut 0000000000",
+            "CoinOut 0000000000",
+            "HandWin 0000000000",
+            "HandCancel 0000000000",
+            "GamesPlayed 0000000000",
+            "GamesWon 0000000000",
+            "PowerUps 0000000002",
+            "LogicOpen 0000000000",
+            "MainOpen 0000000000",
+            "CashboxOpen 0000000000",
+            "DropOpen 0000000000",
+            "end at 3 credit 500",
+        ],
+        entries: Some(3),
+    };
+    expect(&rt, rt.alloc(), zeros(rt.alloc()), &wanted)
 }
 
-// Words by which the reels show three scatters, and the prizes 2, 4, 6, 10 and 20 are turned by two.
-fn three_scatters() -> Block {
-    let mut words = [0; 16];
+/// A block of zeros, and one by which the reels show three scatters and the prizes 2, 4, 6, 10 and 20 are turned by
+/// two.
+fn three_scatters(alloc: Global) -> Result<ListDraws, Fail> {
+    let mut words: Block = [0; 16];
     words[0] = 0x3800_0000_0000_0000;
     words[2] = 0x6800_0000_0000_0000;
     words[10] = 0x6666_6666_6666_6667;
-    words
+    Ok(ListDraws::of(vec![in alloc; [0; 16], words]?))
 }
 
-// A draw stands through a power loss before its pick. Behind door 2 is 10 times 9 credits, which are 450 cents.
+/// A draw stands through a power loss before its pick. Behind door 2 is 10 times 9 credits, which are 450 cents.
 #[test]
 fn kept_draw_shows_state(rt: HostRuntime) -> Result<(), Fail> {
-    let alloc = rt.alloc();
-    let blocks = vec![in alloc; [0; 16], three_scatters()]?;
-    let lines = script(
-        alloc,
-        b"bill 500\nplay reels 9\noff\non\nshow state\npick 2\ntake\n",
-    )?;
-    let lab = MemoryLab::new(alloc, DISK_LEN)?;
-    let run = trial_with_draws(alloc, &["trial"], lines, 1000, lab, ListDraws::of(blocks))?;
-    assert_eq!(rt; run.status, Status::Done);
-    assert_eq!(rt;
-        run.output.bytes(),
-        b"power 1: a sound 0, b sound 0\nstart at 1\nack bill 1 taken at 2\nack player 1 taken at 3\noff\npower 2: a sound 3, b sound 3\nstart at 4\ncredit 455\ncondition none\norder none\nhandpay none\nplay 1 block 1 reels bet 9 wager 45\nwindow SSSFC AFACF BEDEB\nstage pick win 0\nack player 2 taken at 5\nack player 3 taken at 6\nend at 6 credit 905\n".as_slice()
-    );
-    are_sound(&rt, alloc, run.lab, 6)
+    let wanted = Trial {
+        script: &[
+            "bill 500",
+            "play reels 9",
+            "off",
+            "on",
+            "show state",
+            "pick 2",
+            "take",
+        ],
+        status: Status::Done,
+        report: &[
+            "ack bill 1 taken at 2",
+            "ack player 1 taken at 3",
+            "off",
+            "power 2: a sound 3, b sound 3",
+            "start at 4",
+            "credit 455",
+            "condition none",
+            "order none",
+            "handpay none",
+            "play 1 block 1 reels bet 9 wager 45",
+            "window SSSFC AFACF BEDEB",
+            "stage pick win 0",
+            "ack player 2 taken at 5",
+            "ack player 3 taken at 6",
+            "end at 6 credit 905",
+        ],
+        entries: Some(6),
+    };
+    expect(&rt, rt.alloc(), three_scatters(rt.alloc())?, &wanted)
 }
 
-// A win that waits for the player stands through a power loss. The blocks are those of the seed 1: block 5 wins 10 credits,
-// and the start passes over block 6.
+/// A win that waits for the player stands through a power loss. The blocks are those of the seed 1: block 5 wins 10
+/// credits, and the start passes over block 6.
 #[test]
 fn win_of_a_seed_waits_over_a_power_loss(rt: HostRuntime) -> Result<(), Fail> {
-    let alloc = rt.alloc();
-    let lines = script(
-        alloc,
-        b"bill 500\nplay reels 1\nplay reels 1\nplay reels 1\nplay reels 1\nplay reels 1\noff\non\nshow state\ntake\nplay reels 1\n",
-    )?;
-    let lab = MemoryLab::new(alloc, DISK_LEN)?;
-    let run = trial_with_draws(alloc, &["trial"], lines, 1000, lab, ChaChaDraws::new(1))?;
-    assert_eq!(rt; run.status, Status::Done);
-    assert_eq!(rt;
-        run.output.bytes(),
-        b"power 1: a sound 0, b sound 0\nstart at 1\nack bill 1 taken at 2\nack player 1 taken at 3\nack player 2 taken at 4\nack player 3 taken at 5\nack player 4 taken at 6\nack player 5 taken at 7\noff\npower 2: a sound 7, b sound 7\nstart at 8\ncredit 475\ncondition none\norder none\nhandpay none\nplay 5 block 5 reels bet 1 wager 5\nwindow FEFDC DDWFF ESAEB\nstage gamble win 50\nack player 6 taken at 9\nack player 7 taken at 10\nend at 10 credit 520\n".as_slice()
-    );
-    are_sound(&rt, alloc, run.lab, 10)
+    let wanted = Trial {
+        script: &[
+            "bill 500",
+            "play reels 1",
+            "play reels 1",
+            "play reels 1",
+            "play reels 1",
+            "play reels 1",
+            "off",
+            "on",
+            "show state",
+            "take",
+            "play reels 1",
+        ],
+        status: Status::Done,
+        report: &[
+            "ack bill 1 taken at 2",
+            "ack player 1 taken at 3",
+            "ack player 2 taken at 4",
+            "ack player 3 taken at 5",
+            "ack player 4 taken at 6",
+            "ack player 5 taken at 7",
+            "off",
+            "power 2: a sound 7, b sound 7",
+            "start at 8",
+            "credit 475",
+            "condition none",
+            "order none",
+            "handpay none",
+            "play 5 block 5 reels bet 1 wager 5",
+            "window FEFDC DDWFF ESAEB",
+            "stage gamble win 50",
+            "ack player 6 taken at 9",
+            "ack player 7 taken at 10",
+            "end at 10 credit 520",
+        ],
+        entries: Some(10),
+    };
+    expect(&rt, rt.alloc(), ChaChaDraws::new(1), &wanted)
 }
 
-// What the player's events are refused with. A refused play draws nothing, so the first that is taken has block 1.
+/// What the player's events are refused with. A refused play draws nothing, so the first that is taken has block 1.
 #[test]
 fn refusals_of_the_player(rt: HostRuntime) -> Result<(), Fail> {
-    let alloc = rt.alloc();
-    let blocks = vec![in alloc; [0; 16], three_scatters()]?;
-    let lines = script(
-        alloc,
-        b"play reels 1\nbill 500\npick 1\nplay reels 10\nplay reels 9\nplay reels 9\ntake\npick 2\npick 2\ntake\ntake\n",
-    )?;
-    let lab = MemoryLab::new(alloc, DISK_LEN)?;
-    let run = trial_with_draws(alloc, &["trial"], lines, 1000, lab, ListDraws::of(blocks))?;
-    assert_eq!(rt; run.status, Status::Done);
-    assert_eq!(rt;
-        run.output.bytes(),
-        b"power 1: a sound 0, b sound 0\nstart at 1\nack player 1 refused 6 no-credit at 2\nack bill 1 taken at 3\nack player 2 refused 8 no-play at 4\nack player 3 refused 5 bad-wager at 5\nack player 4 taken at 6\nack player 5 refused 7 play-open at 7\nack player 6 refused 9 bad-choice at 8\nack player 7 taken at 9\nack player 8 refused 9 bad-choice at 10\nack player 9 taken at 11\nack player 10 refused 8 no-play at 12\nend at 12 credit 905\n".as_slice()
-    );
-    are_sound(&rt, alloc, run.lab, 12)
+    let wanted = Trial {
+        script: &[
+            "play reels 1",
+            "bill 500",
+            "pick 1",
+            "play reels 10",
+            "play reels 9",
+            "play reels 9",
+            "take",
+            "pick 2",
+            "pick 2",
+            "take",
+            "take",
+        ],
+        status: Status::Done,
+        report: &[
+            "ack player 1 refused 6 no-credit at 2",
+            "ack bill 1 taken at 3",
+            "ack player 2 refused 8 no-play at 4",
+            "ack player 3 refused 5 bad-wager at 5",
+            "ack player 4 taken at 6",
+            "ack player 5 refused 7 play-open at 7",
+            "ack player 6 refused 9 bad-choice at 8",
+            "ack player 7 taken at 9",
+            "ack player 8 refused 9 bad-choice at 10",
+            "ack player 9 taken at 11",
+            "ack player 10 refused 8 no-play at 12",
+            "end at 12 credit 905",
+        ],
+        entries: Some(12),
+    };
+    expect(&rt, rt.alloc(), three_scatters(rt.alloc())?, &wanted)
 }
 
 #[test]
 fn power_off_at_the_end(rt: HostRuntime) -> Result<(), Fail> {
-    let alloc = rt.alloc();
-    let lines = script(
-        alloc,
-        b"# the evening ends\n\nbill 500\noff\n# nothing more\n",
-    )?;
-    let lab = MemoryLab::new(alloc, DISK_LEN)?;
-    let run = trial(alloc, &["trial"], lines, 1000, lab)?;
-    assert_eq!(rt; run.status, Status::Done);
-    assert_eq!(rt;
-        run.output.bytes(),
-        b"power 1: a sound 0, b sound 0\nstart at 1\nack bill 1 taken at 2\noff\nend off\n".as_slice()
-    );
-    assert_eq!(rt; run.lab.powered(), false);
-    Ok(())
+    let wanted = Trial {
+        script: &[
+            "# the evening ends",
+            "",
+            "bill 500",
+            "off",
+            "# nothing more",
+        ],
+        status: Status::Done,
+        report: &["ack bill 1 taken at 2", "off", "end off"],
+        entries: None,
+    };
+    expect(&rt, rt.alloc(), zeros(rt.alloc()), &wanted)
 }
 
-// How many pairs of `off` and `on` follow the first power-on of a trial that reaches the last that is allowed.
+/// How many pairs of `off` and `on` follow the first power-on of a trial that reaches the last that is allowed.
 const PAIRS: usize = 255;
 
 #[test]
@@ -129,84 +263,73 @@ fn as_many_power_ons_as_are_allowed(rt: HostRuntime) -> Result<(), Fail> {
     for _ in 0..PAIRS {
         bytes.extend_from_slice(b"off\non\n")?;
     }
-    let lines = script(alloc, bytes.as_slice())?;
     let lab = MemoryLab::new(alloc, DISK_LEN)?;
-    let run = trial(alloc, &["trial"], lines, 20_000, lab)?;
+    let most = MemorySource::of(bytes.clone()?, None);
+    let run = trial(alloc, &["trial"], most, 20_000, lab)?;
     assert_eq!(rt; run.status, Status::Done);
-    assert!(rt;
-        run.output
-            .bytes()
-            .ends_with(b"start at 256\nend at 256 credit 0\n")
-    );
+    let wanted = b"start at 256\nend at 256 credit 0\n";
+    assert!(rt; run.output.bytes().ends_with(wanted));
     are_sound(&rt, alloc, run.lab, 256)?;
 
     bytes.extend_from_slice(b"off\non\nbill 500\n")?;
-    let lines = script(alloc, bytes.as_slice())?;
     let lab = MemoryLab::new(alloc, DISK_LEN)?;
-    let run = trial(alloc, &["trial"], lines, 20_000, lab)?;
+    let more = MemorySource::of(bytes, None);
+    let run = trial(alloc, &["trial"], more, 20_000, lab)?;
     assert_eq!(rt; run.status, Status::ScriptFault);
-    assert!(rt;
-        run.output
-            .bytes()
-            .ends_with(b"start at 256\noff\nline 512\n")
-    );
+    let wanted = b"start at 256\noff\nline 512\n";
+    assert!(rt; run.output.bytes().ends_with(wanted));
     assert_eq!(rt; run.lab.powered(), false);
     Ok(())
 }
 
-// What a run of these lines ends with: the place of the line that is a script fault, and its report behind the opening.
-fn fault_of(rt: &impl Abort, alloc: Global, bytes: &[u8], wanted: &[u8]) -> Result<(), Fail> {
-    let lab = MemoryLab::new(alloc, DISK_LEN)?;
-    let run = trial(alloc, &["trial"], script(alloc, bytes)?, 1000, lab)?;
-    assert_eq!(rt; run.status, Status::ScriptFault);
-    assert!(rt;
-        run.output
-            .bytes()
-            .starts_with(b"power 1: a sound 0, b sound 0\nstart at 1\n")
-    );
-    assert!(rt; run.output.bytes().ends_with(wanted));
+/// Scripts with a line that the power forbids: the lines, those of the report, and the count that is left, as in a
+/// trial.
+#[rattlefmt::skip]
+const FORBIDDEN: &[(&[&str], &[&str], Option<u64>)] = &[
+    (&["on"], &["line 1"], Some(1)),
+    (&["off", "off"], &["off", "line 2"], None),
+    (&["off", "bill 500"], &["off", "line 2"], None),
+    (&["off", "show meters", "on"], &["off", "line 2"], None),
+];
+
+#[test]
+fn lines_that_the_power_forbids(rt: HostRuntime) -> Result<(), Fail> {
+    for (script, report, entries) in FORBIDDEN {
+        let wanted = Trial {
+            script,
+            status: Status::ScriptFault,
+            report,
+            entries: *entries,
+        };
+        expect(&rt, rt.alloc(), zeros(rt.alloc()), &wanted)?;
+    }
     Ok(())
 }
 
 #[test]
-fn lines_that_the_power_forbids(rt: HostRuntime) -> Result<(), Fail> {
-    let alloc = rt.alloc();
-    fault_of(&rt, alloc, b"on\n", b"start at 1\nline 1\n")?;
-    fault_of(&rt, alloc, b"off\noff\n", b"start at 1\noff\nline 2\n")?;
-    fault_of(&rt, alloc, b"off\nbill 500\n", b"start at 1\noff\nline 2\n")?;
-    fault_of(
-        &rt,
-        alloc,
-        b"off\nshow meters\non\n",
-        b"start at 1\noff\nline 2\n",
-    )
-}
-
-#[test]
 fn empty_script(rt: HostRuntime) -> Result<(), Fail> {
-    let alloc = rt.alloc();
-    let lab = MemoryLab::new(alloc, DISK_LEN)?;
-    let run = trial(alloc, &["trial"], script(alloc, b"")?, 1000, lab)?;
-    assert_eq!(rt; run.status, Status::Done);
-    assert_eq!(rt;
-        run.output.bytes(),
-        b"power 1: a sound 0, b sound 0\nstart at 1\nend at 1 credit 0\n".as_slice()
-    );
-    are_sound(&rt, alloc, run.lab, 1)
+    let wanted = Trial {
+        script: &[],
+        status: Status::Done,
+        report: &["end at 1 credit 0"],
+        entries: Some(1),
+    };
+    expect(&rt, rt.alloc(), zeros(rt.alloc()), &wanted)
 }
 
 #[test]
 fn script_fault(rt: HostRuntime) -> Result<(), Fail> {
-    let alloc = rt.alloc();
-    let lines = script(alloc, b"bill 500\nbill 300\nbill 0500\nbill 500\n")?;
-    let lab = MemoryLab::new(alloc, DISK_LEN)?;
-    let run = trial(alloc, &["trial"], lines, 1000, lab)?;
-    assert_eq!(rt; run.status, Status::ScriptFault);
-    assert_eq!(rt;
-        run.output.bytes(),
-        b"power 1: a sound 0, b sound 0\nstart at 1\nack bill 1 taken at 2\nack bill 2 refused 3 value-not-enabled at 3\nline 3\n".as_slice()
-    );
-    are_sound(&rt, alloc, run.lab, 3)
+    let wanted = Trial {
+        script: &["bill 500", "bill 300", "bill 0500", "bill 500"],
+        status: Status::ScriptFault,
+        report: &[
+            "ack bill 1 taken at 2",
+            "ack bill 2 refused 3 value-not-enabled at 3",
+            "line 3",
+        ],
+        entries: Some(3),
+    };
+    expect(&rt, rt.alloc(), zeros(rt.alloc()), &wanted)
 }
 
 #[test]
@@ -214,12 +337,10 @@ fn read_fault(rt: HostRuntime) -> Result<(), Fail> {
     let alloc = rt.alloc();
     let failing = MemorySource::of(Vec::new(alloc), Some(1));
     let lab = MemoryLab::new(alloc, DISK_LEN)?;
-    let run = trial(alloc, &["trial"], failing, 1000, lab)?;
+    let run = trial(alloc, &["trial"], failing, ROOM, lab)?;
     assert_eq!(rt; run.status, Status::ReadFault);
-    assert_eq!(rt;
-        run.output.bytes(),
-        b"power 1: a sound 0, b sound 0\nstart at 1\nread fault\n".as_slice()
-    );
+    let wanted = report(alloc, &["read fault"])?;
+    assert_eq!(rt; run.output.bytes(), wanted.as_slice());
     are_sound(&rt, alloc, run.lab, 1)
 }
 
@@ -227,7 +348,8 @@ fn read_fault(rt: HostRuntime) -> Result<(), Fail> {
 fn write_fault(rt: HostRuntime) -> Result<(), Fail> {
     let alloc = rt.alloc();
     let lab = MemoryLab::new(alloc, DISK_LEN)?;
-    let run = trial(alloc, &["trial"], script(alloc, b"bill 500\n")?, 10, lab)?;
+    let script = MemorySource::of(lines(alloc, &["bill 500"])?, None);
+    let run = trial(alloc, &["trial"], script, 10, lab)?;
     assert_eq!(rt; run.status, Status::WriteFault);
     assert_eq!(rt; run.output.bytes(), b"power 1: a".as_slice());
     are_sound(&rt, alloc, run.lab, 1)
@@ -237,7 +359,8 @@ fn write_fault(rt: HostRuntime) -> Result<(), Fail> {
 fn disk_fault(rt: HostRuntime) -> Result<(), Fail> {
     let alloc = rt.alloc();
     let lab = MemoryLab::faulty(alloc, DISK_LEN, 1)?;
-    let run = trial(alloc, &["trial"], script(alloc, b"bill 500\n")?, 1000, lab)?;
+    let script = MemorySource::of(lines(alloc, &["bill 500"])?, None);
+    let run = trial(alloc, &["trial"], script, ROOM, lab)?;
     assert_eq!(rt; run.status, Status::DiskFault);
     assert_eq!(rt; run.output.bytes(), b"disk fault\n".as_slice());
     Ok(())
@@ -247,11 +370,13 @@ fn disk_fault(rt: HostRuntime) -> Result<(), Fail> {
 fn usage(rt: HostRuntime) -> Result<(), Fail> {
     let alloc = rt.alloc();
     let lab = MemoryLab::new(alloc, DISK_LEN)?;
-    let none = trial(alloc, &[], script(alloc, b"")?, 1000, lab)?;
+    let nothing = MemorySource::of(Vec::new(alloc), None);
+    let none = trial(alloc, &[], nothing, ROOM, lab)?;
     assert_eq!(rt; none.status, Status::Usage);
     assert_eq!(rt; none.output.bytes(), b"usage\n".as_slice());
     let lab = MemoryLab::new(alloc, DISK_LEN)?;
-    let two = trial(alloc, &["trial", "x"], script(alloc, b"")?, 1000, lab)?;
+    let nothing = MemorySource::of(Vec::new(alloc), None);
+    let two = trial(alloc, &["trial", "x"], nothing, ROOM, lab)?;
     assert_eq!(rt; two.status, Status::Usage);
     assert_eq!(rt; two.output.bytes(), b"usage\n".as_slice());
     Ok(())

@@ -8,7 +8,7 @@ use Rattle.gd_script.specs.declared.limits.TheConstants.{MOST_AMOUNT, MOST_BET, 
 use Rattle.gd_script.specs.declared.tables.TheConstants.{DOORS, GAMES, TILTS}
 use Rattle.gd_script.specs.Grammar.{event_words, IsLineEvent, NamesNoOrder}
 use Rattle.gd_script.specs.Names.{door_name, tilt_name}
-use Rattle.gd_script.specs.Reading.{amount_of, bare_event, event_by, event_of, event_with, hold_of, keyword_name, keyword_of, named, number_in, number_of, pair, play_of, voucher_of}
+use Rattle.gd_script.specs.Reading.{amount_of, bare_event, event_by, event_of, event_with, hold_of, keyword_name, keyword_of, value_named, number_in, number_of, word_pair, play_of, voucher_of}
 use Rattle.gd_script.proofs.HoldBits.{hold_read, hold_said}
 use Rattle.gd_script.proofs.NameTables.{door_found, game_found, keyword_says, named_says, tilt_found}
 use Rattle.gd_script.proofs.Numbers.{number_in_decimal}
@@ -50,7 +50,7 @@ second first {word} {text} e = ap (λ (w : List ℕ). first ∷ w ∷ []) e
 third : (first : List ℕ) {v w s t : List ℕ} → v ≡ s → w ≡ t → first ∷ v ∷ w ∷ [] ≡ first ∷ s ∷ t ∷ []
 third first e f = cc
 
-voucher_said : (fields : List (List ℕ)) (e : Event) → voucher_of (pair fields) ≡ Some e → SaysEvent Keyword.Voucher (codes "voucher" ∷ fields) e
+voucher_said : (fields : List (List ℕ)) (e : Event) → voucher_of (word_pair fields) ≡ Some e → SaysEvent Keyword.Voucher (codes "voucher" ∷ fields) e
 voucher_said (a ∷ b ∷ []) e h =
     let c = combined Event.VoucherIn (number_of a) (amount_of b) e h in
     let id = number_says 0 MOST_NUMBER a c.0 c.2 in
@@ -58,9 +58,9 @@ voucher_said (a ∷ b ∷ []) e h =
     subst (SaysEvent Keyword.Voucher (codes "voucher" ∷ a ∷ b ∷ [])) c.4 (third (codes "voucher") id.0 amount.0, (id.2, amount.2), tt)
 voucher_said _ e h = absurd (cc)
 
-play_said : (fields : List (List ℕ)) (e : Event) → play_of (pair fields) ≡ Some e → SaysEvent Keyword.Play (codes "play" ∷ fields) e
+play_said : (fields : List (List ℕ)) (e : Event) → play_of (word_pair fields) ≡ Some e → SaysEvent Keyword.Play (codes "play" ∷ fields) e
 play_said (a ∷ b ∷ []) e h =
-    let c = combined Event.Play (named game_name GAMES a) (number_in 0 MOST_BET b) e h in
+    let c = combined Event.Play (value_named game_name GAMES a) (number_in 0 MOST_BET b) e h in
     let bet = number_says 0 MOST_BET b c.1 c.3 in
     subst (SaysEvent Keyword.Play (codes "play" ∷ a ∷ b ∷ [])) c.4 (third (codes "play") (named_says game_name GAMES a c.0 c.2) bet.0, bet.2, tt)
 play_said _ e h = absurd (cc)
@@ -81,16 +81,16 @@ with_said Keyword.CoinPaid fields e h =
 with_said Keyword.HopperEmpty fields e h =
     one_field (SaysEvent Keyword.HopperEmpty) number_of Event.HopperEmpty (codes "hopper-empty") fields e (λ w n r. let s = number_says 0 MOST_NUMBER w n r in (second (codes "hopper-empty") s.0, s.2, tt)) h
 with_said Keyword.Open fields e h =
-    one_field (SaysEvent Keyword.Open) (named door_name DOORS) Event.DoorOpen (codes "open") fields e (λ w d r. (second (codes "open") (named_says door_name DOORS w d r), tt, tt)) h
+    one_field (SaysEvent Keyword.Open) (value_named door_name DOORS) Event.DoorOpen (codes "open") fields e (λ w d r. (second (codes "open") (named_says door_name DOORS w d r), tt, tt)) h
 with_said Keyword.Shut fields e h =
-    one_field (SaysEvent Keyword.Shut) (named door_name DOORS) Event.DoorShut (codes "shut") fields e (λ w d r. (second (codes "shut") (named_says door_name DOORS w d r), tt, tt)) h
+    one_field (SaysEvent Keyword.Shut) (value_named door_name DOORS) Event.DoorShut (codes "shut") fields e (λ w d r. (second (codes "shut") (named_says door_name DOORS w d r), tt, tt)) h
 with_said Keyword.Play fields e h = play_said fields e h
 with_said Keyword.Pick fields e h =
     one_field (SaysEvent Keyword.Pick) (number_in 1 MOST_PICK) Event.Pick (codes "pick") fields e (λ w n r. let s = number_says 1 MOST_PICK w n r in (second (codes "pick") s.0, (s.1, s.2), tt)) h
 with_said Keyword.Hold fields e h =
     one_field (SaysEvent Keyword.Hold) hold_of Event.Hold (codes "hold") fields e (λ w m r. let s = hold_said w m r in (second (codes "hold") s.1, s.0, tt)) h
 with_said Keyword.ClearTilt fields e h =
-    one_field (SaysEvent Keyword.ClearTilt) (named tilt_name TILTS) Event.ClearTilt (codes "clear-tilt") fields e (λ w t r. (second (codes "clear-tilt") (named_says tilt_name TILTS w t r), tt, tt)) h
+    one_field (SaysEvent Keyword.ClearTilt) (value_named tilt_name TILTS) Event.ClearTilt (codes "clear-tilt") fields e (λ w t r. (second (codes "clear-tilt") (named_says tilt_name TILTS w t r), tt, tt)) h
 with_said _ fields e h = absurd (cc)
 
 by_said : (o : Option Keyword) (first : List ℕ) (fields : List (List ℕ)) (e : Event) → ((k : Keyword) → o ≡ Some k → first ≡ keyword_name k) → event_by o fields ≡ Some e
@@ -107,7 +107,7 @@ event_said (first ∷ fields) e h = by_said (keyword_of first) first fields e (k
 -- ================ to words
 
 pub event_read : (e : Event) → IsLineEvent e → event_of (event_words e) ≡ Some e
-unfolding event_of bare_event event_with keyword_of named
+unfolding event_of bare_event event_with keyword_of value_named
 event_read (Event.Bill value) h = ap (option_map Event.Bill) (amount_read value h)
 event_read (Event.Coin value) h = ap (option_map Event.Coin) (amount_read value h)
 event_read (Event.VoucherIn id value) h = combine Event.VoucherIn (number_of (decimal id)) (amount_of (decimal value)) id value (number_read id h.0) (amount_read value h.1)
@@ -118,7 +118,7 @@ event_read (Event.HopperEmpty order) h = ap (option_map Event.HopperEmpty) (numb
 event_read (Event.DoorOpen door) h = ap (option_map Event.DoorOpen) (door_found door)
 event_read (Event.DoorShut door) h = ap (option_map Event.DoorShut) (door_found door)
 event_read (Event.Play game bet) h =
-    combine Event.Play (named game_name GAMES (game_name game)) (number_in 0 MOST_BET (decimal bet)) game bet (game_found game) (number_in_decimal 0 MOST_BET bet (omega arith) (omega arith) h)
+    combine Event.Play (value_named game_name GAMES (game_name game)) (number_in 0 MOST_BET (decimal bet)) game bet (game_found game) (number_in_decimal 0 MOST_BET bet (omega arith) (omega arith) h)
 event_read (Event.Pick door) h = ap (option_map Event.Pick) (number_in_decimal 1 MOST_PICK door (omega arith) h.0 h.1)
 event_read (Event.Hold mask) h = ap (option_map Event.Hold) (hold_read mask h)
 event_read (Event.Gamble Colour.Red) h = refl

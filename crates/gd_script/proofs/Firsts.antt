@@ -2,7 +2,7 @@
 use Rattle.std.proofs.Common.{◌≡◌, ℕ, ◌<◌, List, [], ◌∷◌, length, Option, Some, refl, sym, ap, ◌∙◌, arith}
 use Rattle.gd_script.specs.declared.keyword.Keyword.{Keyword}
 use Rattle.gd_script.specs.Reading.{event_by, event_of, event_with, item_by, item_of_words, item_with, keyword_of, words, words_behind}
-use Rattle.gd_script.proofs.Cuts.{one_at_least}
+use Rattle.gd_script.proofs.SplitLemmas.{one_at_least}
 
 event_fields : (keyword : Keyword) (fields : List (List ℕ)) → 0 < length fields → event_with keyword fields ≡ event_by (Some keyword) fields
 event_fields keyword [] h = absurd (omega arith)

@@ -1,11 +1,11 @@
-pub mod Numbers
-pub mod Cuts
-pub mod Found
-pub mod HoldBits
-pub mod Firsts
-pub mod NameTables
-pub mod OneField
-pub mod EventLines
-pub mod ItemLines
-pub mod TextOfWords
-pub mod WholeLines
+mod Numbers
+mod SplitLemmas
+mod Found
+mod HoldBits
+mod Firsts
+mod NameTables
+mod OneField
+mod EventLines
+mod ItemLines
+mod TextOfWords
+mod WholeLines

@@ -7,7 +7,7 @@ use Rattle.gd_base.specs.declared.step.What.{What}
 use Rattle.gd_base.specs.Texts.Names.{device_name, game_name, colour_name}
 use Rattle.gd_base.specs.Texts.OfViews.{bits}
 use Rattle.gd_script.specs.declared.item.Item.{Item}
-use Rattle.gd_script.specs.declared.limits.TheConstants.{HELD_CARDS, LAST_PLACE, MOST_AMOUNT, MOST_BET, MOST_CUT, MOST_HOLD, MOST_MASK, MOST_NUMBER, MOST_PICK, MOST_TORN}
+use Rattle.gd_script.specs.declared.limits.TheConstants.{COMMENT_MARK, HELD_CARDS, LAST_PLACE, LAST_PRINTABLE, LEAST_CUT, LEAST_PICK, MOST_AMOUNT, MOST_BET, MOST_CUT, MOST_HOLD, MOST_MASK, MOST_NUMBER, MOST_PICK, MOST_TORN, SPACE}
 use Rattle.gd_script.specs.Names.{door_name, tilt_name, order_name, unit_name, side_name, what_name}
 
 -- ================ the words of a line
@@ -60,7 +60,7 @@ item_words Item.Skip = codes "#" ∷ []
 
 -- the words with one space between each two
 abbrev pub line_text : Item → List ℕ
-line_text item = join_with_byte 32 (item_words item)
+line_text item = join_with_byte SPACE (item_words item)
 
 -- ================ which items have a line
 
@@ -77,7 +77,7 @@ IsLineEvent (Event.PrintFail order) = IsNumber order
 IsLineEvent (Event.CoinPaid order) = IsNumber order
 IsLineEvent (Event.HopperEmpty order) = IsNumber order
 IsLineEvent (Event.Play game bet) = bet ≤ MOST_BET
-IsLineEvent (Event.Pick door) = (1 ≤ door) × (door ≤ MOST_PICK)
+IsLineEvent (Event.Pick door) = (LEAST_PICK ≤ door) × (door ≤ MOST_PICK)
 IsLineEvent (Event.Hold mask) = mask ≤ MOST_HOLD
 IsLineEvent Event.Start = ⊥
 IsLineEvent _ = Unit {0}
@@ -100,7 +100,7 @@ InGrammar (Item.Event event) = IsLineEvent event × NamesNoOrder event
 InGrammar (Item.OrderEvent kind order) = IsOrderNumber order
 InGrammar (Item.Again device) = device ≢ Device.Power
 InGrammar (Item.As number event) = IsNumber number × IsLineEvent event
-InGrammar (Item.Cut unit count torn) = (1 ≤ count) × (count ≤ MOST_CUT) × (torn ≤ MOST_TORN)
+InGrammar (Item.Cut unit count torn) = (LEAST_CUT ≤ count) × (count ≤ MOST_CUT) × (torn ≤ MOST_TORN)
 InGrammar (Item.Alter side at mask) = (at ≤ LAST_PLACE) × (mask ≤ MOST_MASK)
 InGrammar _ = Unit {0}
 
@@ -108,12 +108,12 @@ InGrammar _ = Unit {0}
 
 -- from the space to the tilde
 abbrev pub IsPrintable : ℕ → Type 0
-IsPrintable b = (32 ≤ b) × (b ≤ 126)
+IsPrintable b = (SPACE ≤ b) × (b ≤ LAST_PRINTABLE)
 
 -- an empty line, or one that begins with `#`
 abbrev pub IsComment : List ℕ → Type 0
 IsComment [] = Unit {0}
-IsComment (b ∷ bytes) = (b ≡ 35) × All IsPrintable bytes
+IsComment (b ∷ bytes) = (b ≡ COMMENT_MARK) × All IsPrintable bytes
 
 -- the line says the item: it is a comment, or it is the item's words
 abbrev pub Says : List ℕ → Item → Type 0

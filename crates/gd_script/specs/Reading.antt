@@ -14,7 +14,7 @@ use Rattle.gd_script.specs.declared.item.OrderWord.{OrderWord}
 use Rattle.gd_script.specs.declared.item.Side.{Side}
 use Rattle.gd_script.specs.declared.keyword.Keyword.{Keyword}
 use Rattle.gd_script.specs.declared.keyword.TheConstants.{KEYWORDS}
-use Rattle.gd_script.specs.declared.limits.TheConstants.{HELD_CARDS, LAST_PLACE, LINE_LEN, MOST_AMOUNT, MOST_BET, MOST_CUT, MOST_MASK, MOST_NUMBER, MOST_PICK, MOST_TORN}
+use Rattle.gd_script.specs.declared.limits.TheConstants.{COMMENT_MARK, HELD_CARDS, LAST_PLACE, LAST_PRINTABLE, LEAST_CUT, LEAST_PICK, LINE_LEN, MOST_AMOUNT, MOST_BET, MOST_CUT, MOST_MASK, MOST_NUMBER, MOST_PICK, MOST_TORN, ONE, SPACE, ZERO}
 use Rattle.gd_script.specs.declared.tables.TheConstants.{DEVICES, DOORS, GAMES, SHOWN, SIDES, TILTS, UNITS}
 use Rattle.gd_script.specs.Names.{door_name, tilt_name, unit_name, side_name, what_name}
 
@@ -22,7 +22,7 @@ use Rattle.gd_script.specs.Names.{door_name, tilt_name, unit_name, side_name, wh
 
 -- what stands between the spaces
 abbrev pub words : List ℕ → List (List ℕ)
-words text = slice_split (λ b. b == 32) text
+words text = slice_split (λ b. b == SPACE) text
 
 -- the words of what stands behind a space, if there is one
 abbrev pub words_behind : Option (List ℕ) → List (List ℕ)
@@ -30,8 +30,8 @@ words_behind None = []
 words_behind (Some text) = words text
 
 -- the one of them that has this name
-unfoldable pub named : {T : Type 0} → (T → List ℕ) → List T → List ℕ → Option T
-named name all text = find (λ one. bytes_eq (name one) text) all
+unfoldable pub value_named : {T : Type 0} → (T → List ℕ) → List T → List ℕ → Option T
+value_named name all text = find (λ one. bytes_eq (name one) text) all
 
 abbrev pub keyword_name : Keyword → List ℕ
 keyword_name Keyword.Bill = codes "bill"
@@ -67,28 +67,29 @@ keyword_name Keyword.Show = codes "show"
 keyword_name Keyword.Order = codes "order"
 
 unfoldable pub keyword_of : List ℕ → Option Keyword
-keyword_of word = named keyword_name KEYWORDS word
+keyword_of word = value_named keyword_name KEYWORDS word
 
 -- the only word
-abbrev pub only : List (List ℕ) → Option (List ℕ)
-only (a ∷ []) = Some a
-only _ = None
+abbrev pub only_word : List (List ℕ) → Option (List ℕ)
+only_word (a ∷ []) = Some a
+only_word _ = None
 
 -- the two words
-abbrev pub pair : List (List ℕ) → Option (List ℕ × List ℕ)
-pair (a ∷ b ∷ []) = Some (a, b)
-pair _ = None
+abbrev pub word_pair : List (List ℕ) → Option (List ℕ × List ℕ)
+word_pair (a ∷ b ∷ []) = Some (a, b)
+word_pair _ = None
 
 -- ================ fields
 
-abbrev pub both : {A B C : Type 0} → (A → B → C) → Option A → Option B → Option C
-both f (Some a) (Some b) = Some (f a b)
-both f _ _ = None
+abbrev pub option_map_both : {A B C : Type 0} → (A → B → C) → Option A → Option B → Option C
+option_map_both f (Some a) (Some b) = Some (f a b)
+option_map_both f _ _ = None
 
 -- the number in this range whose decimal digits the word is, without sign and without leading zeros
 unfoldable pub number_in : ℕ → ℕ → List ℕ → Option ℕ
 number_in least most word =
-    if nat_le least (digits_value 10 word) && nat_le (digits_value 10 word) most && bytes_eq word (decimal (digits_value 10 word))
+    if nat_le least (digits_value 10 word) && nat_le (digits_value 10 word) most
+    && bytes_eq word (decimal (digits_value 10 word))
     then Some (digits_value 10 word) else None
 
 abbrev pub amount_of : List ℕ → Option ℕ
@@ -99,7 +100,7 @@ number_of word = number_in 0 MOST_NUMBER word
 
 -- a digit of `hold`
 abbrev pub bit_of : ℕ → Option ℕ
-bit_of c = if c == 48 then Some 0 else if c == 49 then Some 1 else None
+bit_of c = if c == ZERO then Some 0 else if c == ONE then Some 1 else None
 
 abbrev pub bit_at : List ℕ → ℕ → Option ℕ
 bit_at word i = bit_of (slice_index word i)
@@ -110,7 +111,9 @@ mask_of _ _ _ _ _ = None
 
 -- the mask of five digits, the first for the first card
 unfoldable pub hold_of : List ℕ → Option ℕ
-hold_of word = if length word == HELD_CARDS then mask_of (bit_at word 0) (bit_at word 1) (bit_at word 2) (bit_at word 3) (bit_at word 4) else None
+hold_of word =
+    if length word == HELD_CARDS
+    then mask_of (bit_at word 0) (bit_at word 1) (bit_at word 2) (bit_at word 3) (bit_at word 4) else None
 
 -- an order's number, or none for the open one
 unfoldable pub order_of : List ℕ → Option (Option ℕ)
@@ -133,27 +136,31 @@ bare_event _ = None
 
 abbrev pub voucher_of : Option (List ℕ × List ℕ) → Option Event
 voucher_of None = None
-voucher_of (Some p) = both Event.VoucherIn (number_of p.0) (amount_of p.1)
+voucher_of (Some p) = option_map_both Event.VoucherIn (number_of p.0) (amount_of p.1)
 
 abbrev pub play_of : Option (List ℕ × List ℕ) → Option Event
 play_of None = None
-play_of (Some p) = both Event.Play (named game_name GAMES p.0) (number_in 0 MOST_BET p.1)
+play_of (Some p) = option_map_both Event.Play (value_named game_name GAMES p.0) (number_in 0 MOST_BET p.1)
 
 -- of a line of this first word, by the words behind it
 unfoldable pub event_with : Keyword → List (List ℕ) → Option Event
-event_with Keyword.Bill fields = option_map Event.Bill (option_and_then amount_of (only fields))
-event_with Keyword.Coin fields = option_map Event.Coin (option_and_then amount_of (only fields))
-event_with Keyword.Voucher fields = voucher_of (pair fields)
-event_with Keyword.Printed fields = option_map Event.Printed (option_and_then number_of (only fields))
-event_with Keyword.PrintFail fields = option_map Event.PrintFail (option_and_then number_of (only fields))
-event_with Keyword.CoinPaid fields = option_map Event.CoinPaid (option_and_then number_of (only fields))
-event_with Keyword.HopperEmpty fields = option_map Event.HopperEmpty (option_and_then number_of (only fields))
-event_with Keyword.Open fields = option_map Event.DoorOpen (option_and_then (named door_name DOORS) (only fields))
-event_with Keyword.Shut fields = option_map Event.DoorShut (option_and_then (named door_name DOORS) (only fields))
-event_with Keyword.Play fields = play_of (pair fields)
-event_with Keyword.Pick fields = option_map Event.Pick (option_and_then (number_in 1 MOST_PICK) (only fields))
-event_with Keyword.Hold fields = option_map Event.Hold (option_and_then hold_of (only fields))
-event_with Keyword.ClearTilt fields = option_map Event.ClearTilt (option_and_then (named tilt_name TILTS) (only fields))
+event_with Keyword.Bill fields = option_map Event.Bill (option_and_then amount_of (only_word fields))
+event_with Keyword.Coin fields = option_map Event.Coin (option_and_then amount_of (only_word fields))
+event_with Keyword.Voucher fields = voucher_of (word_pair fields)
+event_with Keyword.Printed fields = option_map Event.Printed (option_and_then number_of (only_word fields))
+event_with Keyword.PrintFail fields = option_map Event.PrintFail (option_and_then number_of (only_word fields))
+event_with Keyword.CoinPaid fields = option_map Event.CoinPaid (option_and_then number_of (only_word fields))
+event_with Keyword.HopperEmpty fields = option_map Event.HopperEmpty (option_and_then number_of (only_word fields))
+event_with Keyword.Open fields =
+    option_map Event.DoorOpen (option_and_then (value_named door_name DOORS) (only_word fields))
+event_with Keyword.Shut fields =
+    option_map Event.DoorShut (option_and_then (value_named door_name DOORS) (only_word fields))
+event_with Keyword.Play fields = play_of (word_pair fields)
+event_with Keyword.Pick fields =
+    option_map Event.Pick (option_and_then (number_in LEAST_PICK MOST_PICK) (only_word fields))
+event_with Keyword.Hold fields = option_map Event.Hold (option_and_then hold_of (only_word fields))
+event_with Keyword.ClearTilt fields =
+    option_map Event.ClearTilt (option_and_then (value_named tilt_name TILTS) (only_word fields))
 event_with _ fields = None
 
 abbrev pub event_by : Option Keyword → List (List ℕ) → Option Event
@@ -174,36 +181,43 @@ bare_item Keyword.Clear = Some Item.Clear
 bare_item Keyword.Order = Some (Item.Show What.Order)
 bare_item keyword = option_map Item.Event (bare_event keyword)
 
-abbrev pub numbered_of : List (List ℕ) → Option Item
-numbered_of [] = None
-numbered_of (number ∷ event) = both Item.As (number_of number) (event_of event)
+abbrev pub numbered_item : List (List ℕ) → Option Item
+numbered_item [] = None
+numbered_item (number ∷ event) = option_map_both Item.As (number_of number) (event_of event)
 
 abbrev pub cut_of : Option CutUnit → Option (List ℕ × List ℕ) → Option Item
-cut_of (Some unit) (Some p) = both (Item.Cut unit) (number_in 1 MOST_CUT p.0) (number_in 0 MOST_TORN p.1)
+cut_of (Some unit) (Some p) =
+    option_map_both (Item.Cut unit) (number_in LEAST_CUT MOST_CUT p.0) (number_in 0 MOST_TORN p.1)
 cut_of _ _ = None
 
 abbrev pub alter_of : Option Side → Option (List ℕ × List ℕ) → Option Item
-alter_of (Some side) (Some p) = both (Item.Alter side) (number_in 0 LAST_PLACE p.0) (number_in 0 MOST_MASK p.1)
+alter_of (Some side) (Some p) =
+    option_map_both (Item.Alter side) (number_in 0 LAST_PLACE p.0) (number_in 0 MOST_MASK p.1)
 alter_of _ _ = None
 
 abbrev pub cut_item : List (List ℕ) → Option Item
 cut_item [] = None
-cut_item (unit ∷ fields) = cut_of (named unit_name UNITS unit) (pair fields)
+cut_item (unit ∷ fields) = cut_of (value_named unit_name UNITS unit) (word_pair fields)
 
 abbrev pub alter_item : List (List ℕ) → Option Item
 alter_item [] = None
-alter_item (side ∷ fields) = alter_of (named side_name SIDES side) (pair fields)
+alter_item (side ∷ fields) = alter_of (value_named side_name SIDES side) (word_pair fields)
 
 unfoldable pub item_with : Keyword → List (List ℕ) → Option Item
-item_with Keyword.Printed fields = option_map (Item.OrderEvent OrderWord.Printed) (option_and_then order_of (only fields))
-item_with Keyword.PrintFail fields = option_map (Item.OrderEvent OrderWord.PrintFail) (option_and_then order_of (only fields))
-item_with Keyword.CoinPaid fields = option_map (Item.OrderEvent OrderWord.CoinPaid) (option_and_then order_of (only fields))
-item_with Keyword.HopperEmpty fields = option_map (Item.OrderEvent OrderWord.HopperEmpty) (option_and_then order_of (only fields))
-item_with Keyword.Again fields = option_map Item.Again (option_and_then (named device_name DEVICES) (only fields))
-item_with Keyword.As fields = numbered_of fields
+item_with Keyword.Printed fields =
+    option_map (Item.OrderEvent OrderWord.Printed) (option_and_then order_of (only_word fields))
+item_with Keyword.PrintFail fields =
+    option_map (Item.OrderEvent OrderWord.PrintFail) (option_and_then order_of (only_word fields))
+item_with Keyword.CoinPaid fields =
+    option_map (Item.OrderEvent OrderWord.CoinPaid) (option_and_then order_of (only_word fields))
+item_with Keyword.HopperEmpty fields =
+    option_map (Item.OrderEvent OrderWord.HopperEmpty) (option_and_then order_of (only_word fields))
+item_with Keyword.Again fields =
+    option_map Item.Again (option_and_then (value_named device_name DEVICES) (only_word fields))
+item_with Keyword.As fields = numbered_item fields
 item_with Keyword.Cut fields = cut_item fields
 item_with Keyword.Alter fields = alter_item fields
-item_with Keyword.Show fields = option_map Item.Show (option_and_then (named what_name SHOWN) (only fields))
+item_with Keyword.Show fields = option_map Item.Show (option_and_then (value_named what_name SHOWN) (only_word fields))
 item_with keyword fields = option_map Item.Event (event_with keyword fields)
 
 abbrev pub item_by : Option Keyword → List (List ℕ) → Option Item
@@ -218,12 +232,12 @@ item_of_words (first ∷ fields) = item_by (keyword_of first) fields
 -- ================ lines
 
 abbrev pub is_printable : ℕ → Bool
-is_printable b = nat_le 32 b && nat_le b 126
+is_printable b = nat_le SPACE b && nat_le b LAST_PRINTABLE
 
 -- an empty line, or one that begins with `#`
 abbrev pub is_comment : List ℕ → Bool
 is_comment [] = true
-is_comment (b ∷ bytes) = b == 35 && list_all is_printable bytes
+is_comment (b ∷ bytes) = b == COMMENT_MARK && list_all is_printable bytes
 
 -- the item that a line says; None where it is no line of the grammar
 unfoldable pub item_of : List ℕ → Option Item

@@ -3,15 +3,12 @@
 ghost use Rattle.std.specs.Prelude.{◌≡◌, ◌≤◌, ◌<◌, ◌↔◌, length, slice_index, IfSome, IsTrue, option_and_then, if◌then◌else◌, None, Some};
 ghost use Rattle.std.specs.Str.{all_ascii_digits};
 ghost use Rattle.std.specs.Str.Parse.{digits_value};
-ghost use Rattle.gd_script.specs.Reading.{amount_of, bit_of, hold_of, keyword_of, number_in, number_of, only, order_of, words};
+ghost use Rattle.gd_script.specs.Reading.{amount_of, bit_of, hold_of, keyword_of, number_in, number_of, only_word, order_of, words};
 
 use crate::keyword::{KEYWORDS, Keyword};
-use crate::limits::{HELD_CARDS, MOST_AMOUNT, MOST_NUMBER};
+use crate::limits::{HELD_CARDS, MOST_AMOUNT, MOST_NUMBER, NUMBER_LEN, ONE, ZERO};
 use crate::named::find_named;
-use crate::words::only;
-
-/// The most digits of a number.
-const NUMBER_LEN: usize = 20;
+use crate::words::only_word;
 
 /// The keyword that a word is, or none.
 #[tactic(auto, unfolding(crate::specs::Reading::keyword_of))]
@@ -44,12 +41,13 @@ pub(crate) fn read_number(word: &[u8], least: u64, most: u64) -> Option<u64>
 
 /// Whether digits begin as those of a number do: with no zero, but for `0` itself.
 fn starts_plainly(digits: &[u8]) -> bool
-    ensures { IsTrue result ↔ ((0 < length digits.now) × (slice_index digits.now 0 ≡ 48 → length digits.now ≡ 1)) }
+    ensures { IsTrue result ↔
+        ((0 < length digits.now) × (slice_index digits.now 0 ≡ ZERO → length digits.now ≡ 1)) }
 {
     match digits {
         [] => false,
         [_] => true,
-        [first, ..] => *first != b'0',
+        [first, ..] => *first != ZERO,
     }
 }
 
@@ -63,7 +61,7 @@ fn read_digits(digits: &[u8]) -> Option<u128>
         if !digit.is_ascii_digit() {
             return None;
         }
-        value = 10 * value + u128::from(*digit - b'0');
+        value = 10 * value + u128::from(*digit - ZERO);
     }
     Some(value)
 }
@@ -76,7 +74,7 @@ pub(crate) fn read_amount(word: &[u8]) -> Option<u32>
     Some(value as u32)
 }
 
-/// The number at most `most` that a word writes, or none, as with `read_number`.
+/// The number from `least` to `most` that a word writes, or none, as with `read_number`.
 pub(crate) fn read_byte(word: &[u8], least: u8, most: u8) -> Option<u8>
     ensures { result ≡ number_in least most word.now }
 {
@@ -118,8 +116,8 @@ fn read_bit(digit: u8) -> Option<u8>
     ensures range { IfSome result (λ b. b ≤ 1) }
 {
     match digit {
-        b'0' => Some(0),
-        b'1' => Some(1),
+        ZERO => Some(0),
+        ONE => Some(1),
         _ => None,
     }
 }

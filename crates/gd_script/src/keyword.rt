@@ -1,7 +1,7 @@
-// The words with which lines begin.
+//! The words with which lines begin.
 
 /// The first word of a line. docs/FORMATS.md has the lines.
-#[derive(Clone, Copy, Debug, PartialEq, Eq)]
+#[derive(Clone, Copy, PartialEq, Eq, Debug)]
 pub(crate) enum Keyword {
     Bill,
     BillJam,

@@ -19,8 +19,8 @@ mod words;
 
 pub use item::{Item, LineFault, OrderWord, Side};
 pub use limits::{
-    HELD_CARDS, LAST_PLACE, LINE_LEN, MOST_AMOUNT, MOST_BET, MOST_CUT, MOST_HOLD, MOST_MASK,
-    MOST_NUMBER, MOST_PICK, MOST_TORN,
+    HELD_CARDS, LAST_PLACE, LEAST_CUT, LEAST_PICK, LINE_LEN, MOST_AMOUNT, MOST_BET, MOST_CUT,
+    MOST_HOLD, MOST_MASK, MOST_NUMBER, MOST_PICK, MOST_TORN,
 };
 pub use printing::print_item;
 pub use reading::read_line;

@@ -1,4 +1,4 @@
-//! The limits of lines and of their fields. docs/FORMATS.md has the grammar.
+//! The limits of lines and of their fields, and the bytes that part and begin lines. docs/FORMATS.md has the grammar.
 
 use gd_disk::COPY_LEN;
 
@@ -14,7 +14,10 @@ pub const MOST_AMOUNT: u32 = 100_000_000;
 /// The greatest bet of a line, in credits. Which bets a game takes is the machine's to judge.
 pub const MOST_BET: u8 = 255;
 
-/// The greatest number of a door that can be picked, from 1.
+/// The least number of a door that can be picked.
+pub const LEAST_PICK: u8 = 1;
+
+/// The greatest number of a door that can be picked.
 pub const MOST_PICK: u8 = 5;
 
 /// The cards of a hand, of which each has a digit in `hold`.
@@ -23,10 +26,13 @@ pub const HELD_CARDS: usize = 5;
 /// The mask of all cards.
 pub const MOST_HOLD: u8 = 31;
 
-/// The most calls or syncs after which an armed cut comes, from 1.
+/// The fewest calls or syncs after which an armed cut comes.
+pub const LEAST_CUT: u32 = 1;
+
+/// The most calls or syncs after which an armed cut comes.
 pub const MOST_CUT: u32 = 100_000;
 
-/// The last of the kinds of a loss, from 0.
+/// The last of the kinds of a loss, from 0. They are told at `arm` of a laboratory's disk.
 pub const MOST_TORN: u8 = 3;
 
 /// The last place in a copy, from 0.
@@ -34,3 +40,65 @@ pub const LAST_PLACE: u64 = COPY_LEN as u64 - 1;
 
 /// The greatest byte that is combined with one of a copy.
 pub const MOST_MASK: u8 = 255;
+
+/// The most digits of a number.
+pub(crate) const NUMBER_LEN: usize = 20;
+
+/// The most letters of a word that isn't a number.
+pub(crate) const WORD_LEN: usize = 12;
+
+/// The byte between two words, and the first that a comment can have.
+pub(crate) const SPACE: u8 = b' ';
+
+/// The last byte that a comment can have.
+pub(crate) const LAST_PRINTABLE: u8 = b'~';
+
+/// The byte with which a comment begins.
+pub(crate) const COMMENT_MARK: u8 = b'#';
+
+/// The digit of a card that isn't held, and the one with which no longer number begins.
+pub(crate) const ZERO: u8 = b'0';
+
+/// The digit of a card that is held.
+pub(crate) const ONE: u8 = b'1';
+
+// Each of them is fixed by the formats.
+const _: () = prove!(LINE_LEN == 120);
+
+const _: () = prove!(MOST_NUMBER == 18_446_744_073_709_551_615);
+
+const _: () = prove!(MOST_AMOUNT == 100_000_000);
+
+const _: () = prove!(MOST_BET == 255);
+
+const _: () = prove!(LEAST_PICK == 1);
+
+const _: () = prove!(MOST_PICK == 5);
+
+const _: () = prove!(HELD_CARDS == 5);
+
+const _: () = prove!(MOST_HOLD == 31);
+
+const _: () = prove!(LEAST_CUT == 1);
+
+const _: () = prove!(MOST_CUT == 100_000);
+
+const _: () = prove!(MOST_TORN == 3);
+
+const _: () = prove!(LAST_PLACE == 17_456);
+
+const _: () = prove!(MOST_MASK == 255);
+
+const _: () = prove!(NUMBER_LEN == 20);
+
+const _: () = prove!(WORD_LEN == 12);
+
+const _: () = prove!(SPACE == 32);
+
+const _: () = prove!(LAST_PRINTABLE == 126);
+
+const _: () = prove!(COMMENT_MARK == 35);
+
+const _: () = prove!(ZERO == 48);
+
+const _: () = prove!(ONE == 49);

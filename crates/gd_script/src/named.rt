@@ -1,7 +1,7 @@
 //! The values that have a name in scripts.
 
 ghost use Rattle.std.specs.Prelude.{◌≡◌, ◌≤◌, length, List, ℕ};
-ghost use Rattle.gd_script.specs.Reading.{named};
+ghost use Rattle.gd_script.specs.Reading.{value_named};
 
 /// A value that a word of a script names.
 pub(crate) trait Named {
@@ -14,7 +14,7 @@ pub(crate) trait Named {
 
 /// The one of them that this word names, or none.
 pub(crate) fn find_named<T: Named + Copy>(all: &[T], word: &[u8]) -> Option<T>
-    ensures { result ≡ named T.name_of all.now word.now }
+    ensures { result ≡ value_named T.name_of all.now word.now }
 {
     for one in all {
         if one.word().as_bytes() == word {

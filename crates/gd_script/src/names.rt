@@ -51,10 +51,7 @@ impl Named for Game {
     ghost name_of = { game_name };
 
     fn word(&self) -> &'static str {
-        match self {
-            Game::Reels => "reels",
-            Game::Poker => "poker",
-        }
+        self.name()
     }
 }
 

@@ -10,19 +10,32 @@ ghost use Rattle.gd_script.specs.Names.{order_name};
 ghost use Rattle.gd_script.specs.Reading.{read_of};
 
 use crate::item::{Item, OrderWord};
-use crate::limits::{HELD_CARDS, LINE_LEN};
+use crate::limits::{HELD_CARDS, LINE_LEN, NUMBER_LEN, SPACE, WORD_LEN};
 use crate::named::Named;
 use gd_base::{Colour, Event, TEXT_LEN, Text, What, push_number};
 
-/// Appends the line of an item with its LF: at most 121 bytes. `read_line` gives the item for the line without its LF. The
-/// item is one that `read_line` gives for some line; docs/FORMATS.md has the grammar.
+/// The most bytes of two words.
+const TWO_WORDS_LEN: usize = WORD_LEN + 1 + WORD_LEN;
+
+/// The most bytes of a word and a number.
+const COUNT_LEN: usize = WORD_LEN + 1 + NUMBER_LEN;
+
+/// The most bytes of two numbers, each behind a space.
+const TWO_NUMBERS_LEN: usize = 1 + NUMBER_LEN + 1 + NUMBER_LEN;
+
+/// The most bytes of an event: of a word and two numbers.
+const EVENT_LEN: usize = WORD_LEN + TWO_NUMBERS_LEN;
+
+/// Writes the line of an item with its LF, in place of what the text held: at most 121 bytes. `read_line` gives the
+/// item for the line without its LF. The item is one that `read_line` gives for some line; docs/FORMATS.md has the
+/// grammar.
 pub fn print_item(item: &Item, into: &mut Text)
     requires grammar { InGrammar item.now }
-    requires room { array_string_len into.old + LINE_LEN + 1 ≤ TEXT_LEN }
-    ensures bytes { into.new.bytes ≡ into.old.bytes ++ line_text item.now ++ codes "\n" }
-    ensures room { array_string_len into.new ≤ array_string_len into.old + LINE_LEN + 1 }
+    ensures bytes { into.new.bytes ≡ line_text item.now ++ codes "\n" }
+    ensures room { array_string_len into.new ≤ LINE_LEN + 1 }
     ensures again { read_of (line_text item.now) ≡ Ok item.now }
 {
+    into.clear();
     push_item(item, into);
     into.push_str("\n");
 }
@@ -62,9 +75,9 @@ fn push_item(item: &Item, into: &mut Text)
 /// Appends the words of an event.
 fn push_event(event: &Event, into: &mut Text)
     requires grammar { IsLineEvent event.now }
-    requires room { array_string_len into.old + 60 ≤ TEXT_LEN }
-    ensures bytes { into.new.bytes ≡ into.old.bytes ++ join_with_byte 32 (event_words event.now) }
-    ensures room { array_string_len into.new ≤ array_string_len into.old + 60 }
+    requires room { array_string_len into.old + EVENT_LEN ≤ TEXT_LEN }
+    ensures bytes { into.new.bytes ≡ into.old.bytes ++ join_with_byte SPACE (event_words event.now) }
+    ensures room { array_string_len into.new ≤ array_string_len into.old + EVENT_LEN }
 {
     match event {
         Event::Bill { value } => push_count(into, "bill", u64::from(*value)),
@@ -109,9 +122,10 @@ fn push_event(event: &Event, into: &mut Text)
 
 /// Appends an order's word, and its number or the word `open`.
 fn push_order(kind: OrderWord, order: Option<u64>, into: &mut Text)
-    requires { array_string_len into.old + 40 ≤ TEXT_LEN }
-    ensures bytes { into.new.bytes ≡ into.old.bytes ++ join_with_byte 32 (order_name kind ∷ order_number order ∷ []) }
-    ensures room { array_string_len into.new ≤ array_string_len into.old + 40 }
+    requires { array_string_len into.old + COUNT_LEN ≤ TEXT_LEN }
+    ensures bytes { into.new.bytes ≡
+        into.old.bytes ++ join_with_byte SPACE (order_name kind ∷ order_number order ∷ []) }
+    ensures room { array_string_len into.new ≤ array_string_len into.old + COUNT_LEN }
 {
     match order {
         None => push_word(into, kind.word(), "open"),
@@ -121,9 +135,9 @@ fn push_order(kind: OrderWord, order: Option<u64>, into: &mut Text)
 
 /// Appends the words that show a text.
 fn push_show(what: What, into: &mut Text)
-    requires { array_string_len into.old + 40 ≤ TEXT_LEN }
-    ensures bytes { into.new.bytes ≡ into.old.bytes ++ join_with_byte 32 (show_words what) }
-    ensures room { array_string_len into.new ≤ array_string_len into.old + 40 }
+    requires { array_string_len into.old + TWO_WORDS_LEN ≤ TEXT_LEN }
+    ensures bytes { into.new.bytes ≡ into.old.bytes ++ join_with_byte SPACE (show_words what) }
+    ensures room { array_string_len into.new ≤ array_string_len into.old + TWO_WORDS_LEN }
 {
     match what {
         What::Order => into.push_str("order"),
@@ -133,11 +147,11 @@ fn push_show(what: What, into: &mut Text)
 
 /// Appends two words.
 fn push_word(into: &mut Text, first: &str, second: &str)
-    requires room { array_string_len into.old + 30 ≤ TEXT_LEN }
-    requires first { length first.now ≤ 14 }
-    requires second { length second.now ≤ 14 }
-    ensures bytes { into.new.bytes ≡ into.old.bytes ++ join_with_byte 32 (first.now ∷ second.now ∷ []) }
-    ensures room { array_string_len into.new ≤ array_string_len into.old + 30 }
+    requires room { array_string_len into.old + TWO_WORDS_LEN ≤ TEXT_LEN }
+    requires first { length first.now ≤ WORD_LEN }
+    requires second { length second.now ≤ WORD_LEN }
+    ensures bytes { into.new.bytes ≡ into.old.bytes ++ join_with_byte SPACE (first.now ∷ second.now ∷ []) }
+    ensures room { array_string_len into.new ≤ array_string_len into.old + TWO_WORDS_LEN }
 {
     into.push_str(first);
     into.push_str(" ");
@@ -146,10 +160,10 @@ fn push_word(into: &mut Text, first: &str, second: &str)
 
 /// Appends a word and a number.
 fn push_count(into: &mut Text, first: &str, count: u64)
-    requires room { array_string_len into.old + 35 ≤ TEXT_LEN }
-    requires first { length first.now ≤ 14 }
-    ensures bytes { into.new.bytes ≡ into.old.bytes ++ join_with_byte 32 (first.now ∷ decimal count ∷ []) }
-    ensures room { array_string_len into.new ≤ array_string_len into.old + 35 }
+    requires room { array_string_len into.old + COUNT_LEN ≤ TEXT_LEN }
+    requires first { length first.now ≤ WORD_LEN }
+    ensures bytes { into.new.bytes ≡ into.old.bytes ++ join_with_byte SPACE (first.now ∷ decimal count ∷ []) }
+    ensures room { array_string_len into.new ≤ array_string_len into.old + COUNT_LEN }
 {
     into.push_str(first);
     into.push_str(" ");
@@ -158,9 +172,9 @@ fn push_count(into: &mut Text, first: &str, count: u64)
 
 /// Appends two numbers, each behind a space.
 fn push_two(into: &mut Text, first: u64, second: u64)
-    requires { array_string_len into.old + 42 ≤ TEXT_LEN }
-    ensures bytes { into.new.bytes ≡ into.old.bytes ++ 32 ∷ decimal first ++ 32 ∷ decimal second }
-    ensures room { array_string_len into.new ≤ array_string_len into.old + 42 }
+    requires { array_string_len into.old + TWO_NUMBERS_LEN ≤ TEXT_LEN }
+    ensures bytes { into.new.bytes ≡ into.old.bytes ++ SPACE ∷ decimal first ++ SPACE ∷ decimal second }
+    ensures room { array_string_len into.new ≤ array_string_len into.old + TWO_NUMBERS_LEN }
 {
     into.push_str(" ");
     push_number(into, first);

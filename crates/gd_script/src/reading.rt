@@ -10,16 +10,17 @@ ghost use Rattle.gd_script.specs.declared.item.LineFault.{LineFault};
 use crate::fields::read_keyword;
 use crate::item::{Item, LineFault};
 use crate::items::{bare_item, item_with};
-use crate::limits::LINE_LEN;
-use crate::words::cut;
+use crate::limits::{COMMENT_MARK, LAST_PRINTABLE, LINE_LEN, SPACE};
+use crate::words::split_first;
 
-/// The item that a line says, its LF not among its bytes. TooLong comes where it has more than 120 bytes, whatever they are,
-/// and NotALine where it isn't too long and is no line of the grammar. docs/FORMATS.md has the grammar.
+/// The item that a line says, its LF not among its bytes. TooLong comes where it has more than 120 bytes, whatever they
+/// are, and NotALine where it isn't too long and is no line of the grammar. docs/FORMATS.md has the grammar.
 pub fn read_line(line: &[u8]) -> Result<Item, LineFault>
     ensures value { result ≡ read_of line.now }
     ensures item { (i : Item) → (result ≡ Ok i) ↔ ((length line.now ≤ LINE_LEN) × Says line.now i) }
     ensures too_long { (result ≡ Err LineFault.TooLong) ↔ (LINE_LEN < length line.now) }
-    ensures not_a_line { (result ≡ Err LineFault.NotALine) ↔ ((length line.now ≤ LINE_LEN) × ((i : Item) → ¬ Says line.now i)) }
+    ensures not_a_line { (result ≡ Err LineFault.NotALine) ↔
+        ((length line.now ≤ LINE_LEN) × ((i : Item) → ¬ Says line.now i)) }
     // What was read can be printed.
     ensures grammar { IfOk result InGrammar }
 {
@@ -37,7 +38,7 @@ fn read_item(line: &[u8]) -> Option<Item>
     if is_comment(line) {
         return Some(Item::Skip);
     }
-    let (first, rest) = cut(line);
+    let (first, rest) = split_first(line);
     let keyword = read_keyword(first)?;
     match rest {
         None => bare_item(keyword),
@@ -51,7 +52,7 @@ fn is_comment(line: &[u8]) -> bool
 {
     match line {
         [] => true,
-        [first, rest @ ..] => *first == b'#' && are_printable(rest),
+        [first, rest @ ..] => *first == COMMENT_MARK && are_printable(rest),
     }
 }
 
@@ -59,5 +60,7 @@ fn is_comment(line: &[u8]) -> bool
 fn are_printable(bytes: &[u8]) -> bool
     ensures { result ≡ list_all is_printable bytes.now }
 {
-    bytes.iter().all(|byte| matches!(*byte, b' '..=b'~'))
+    bytes
+        .iter()
+        .all(|byte| matches!(*byte, SPACE..=LAST_PRINTABLE))
 }

@@ -16,15 +16,19 @@ pub(crate) const DEVICES: [Device; 8] = [
     Device::Attendant,
 ];
 
+/// The doors.
 pub(crate) const DOORS: [Door; 4] = [Door::Logic, Door::Main, Door::Cashbox, Door::Drop];
 
+/// The games.
 pub(crate) const GAMES: [Game; 2] = [Game::Reels, Game::Poker];
 
 /// The texts that `show` names. `order` is a line of its own.
 pub(crate) const SHOWN: [What; 4] = [What::Meters, What::State, What::Recall, What::Events];
 
+/// The two copies.
 pub(crate) const SIDES: [Side; 2] = [Side::A, Side::B];
 
+/// The tilts.
 pub(crate) const TILTS: [Tilt; 6] = [
     Tilt::BillJam,
     Tilt::CoinJam,
@@ -34,4 +38,5 @@ pub(crate) const TILTS: [Tilt; 6] = [
     Tilt::HopperEmpty,
 ];
 
+/// What is counted before a cut.
 pub(crate) const UNITS: [CutUnit; 2] = [CutUnit::Call, CutUnit::Sync];

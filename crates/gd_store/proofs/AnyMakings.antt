@@ -9,7 +9,7 @@ use Rattle.gd_disk.proofs.Written.{at_byte, byte_before}
 use Rattle.gd_store.specs.Copy.{part, copy_len, copy_a, copy_b}
 use Rattle.gd_store.specs.Making.{ReadsOpen, behind_open, IsOld, AreShuttingAny}
 use Rattle.gd_store.specs.Writing.{From, IsOverOpen, IsShut}
-use Rattle.gd_store.specs.declared.layout.Layout.{Layout}
+use Rattle.gd_store.specs.declared.copy.layout.Layout.{Layout}
 use Rattle.gd_store.proofs.Images.{part_before, part_behind}
 use Rattle.gd_store.proofs.MakingMoments.{shut_too}
 

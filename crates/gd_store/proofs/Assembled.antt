@@ -7,7 +7,7 @@ use Rattle.std.specs.Int.{w64, to_be_bytes}
 use Rattle.sha2.specs.Sha256.{sha256}
 use Rattle.sha2.proofs.Facts256.{length-sha256}
 use Rattle.gd_store.specs.Copy.{page, digests, header_start, head_of, body_of}
-use Rattle.gd_store.specs.declared.layout.Layout.{Layout}
+use Rattle.gd_store.specs.declared.copy.layout.Layout.{Layout}
 use Rattle.gd_disk.specs.declared.lengths.TheConstants.{DIGEST_LEN, HEADER_LEN, PAGE_LEN}
 
 pub no_digests : (payload : List ℕ) → [] ≡ digests 0 payload

@@ -3,30 +3,30 @@ use Rattle.std.proofs.Common.{◌≡◌, ◌≢◌, ◌⊎◌, inl, inr, ⊎_eli
 use Rattle.std.proofs.lemmas.Bool.{cases_eq}
 use Rattle.std.proofs.lemmas.Bool.Decides.{nat_tests}
 use Rattle.gd_store.specs.Copy.{part, copy_len, sealed, state_of, stored_payload, copy_a, copy_b, chosen, boots, IsCopy}
-use Rattle.gd_store.specs.Writing.{IsShut, IsWriting}
+use Rattle.gd_store.specs.Writing.{IsShut, IsWriting, IsCommitting}
 use Rattle.gd_store.proofs.Images.{part_before, part_behind, first_of}
 use Rattle.gd_disk.specs.Disk.{IfTold, with_bytes}
 use Rattle.gd_disk.proofs.Written.{torn-written, part-written}
 use Rattle.gd_store.proofs.Sealed.{same_bytes, length-sealed, sealed_sound, sealed_payload}
-use Rattle.gd_store.specs.declared.layout.Layout.{Layout}
-use Rattle.gd_store.specs.declared.copy.Why.TheVariants.{Shut}
-use Rattle.gd_store.specs.declared.copy.CopyState.{CopyState}
-use Rattle.gd_store.specs.declared.copy.CopyState.TheVariants.{Sound, Bad}
+use Rattle.gd_store.specs.declared.copy.layout.Layout.{Layout}
+use Rattle.gd_store.specs.declared.copy.states.Why.TheVariants.{Shut}
+use Rattle.gd_store.specs.declared.copy.states.CopyState.{CopyState}
+use Rattle.gd_store.specs.declared.copy.states.CopyState.TheVariants.{Sound, Bad}
 use Rattle.gd_disk.specs.declared.lengths.TheConstants.{PAGE_LEN}
 
-shut_state : (l : Layout) (copy : List ℕ) → (get_or copy 0 0 ≢ 0xA5) → state_of l copy ≡ Bad Shut
+pub shut_state : (l : Layout) (copy : List ℕ) → (get_or copy 0 0 ≢ 0xA5) → state_of l copy ≡ Bad Shut
 unfolding state_of
 shut_state l copy shut = grind (arith, nat_tests)
 
 -- the states of two copies decide, with their payloads, what is booted
-from_states : (l : Layout) (image : List ℕ) (s t : CopyState) (p q : List ℕ) → state_of l (copy_a l image) ≡ s → state_of l (copy_b l image) ≡ t → stored_payload l (copy_a l image) ≡ p → stored_payload l (copy_b l image) ≡ q → boots l image ≡ chosen s t p q
+pub from_states : (l : Layout) (image : List ℕ) (s t : CopyState) (p q : List ℕ) → state_of l (copy_a l image) ≡ s → state_of l (copy_b l image) ≡ t → stored_payload l (copy_a l image) ≡ p → stored_payload l (copy_b l image) ≡ q → boots l image ≡ chosen s t p q
 from_states l image s t p q is_s is_t is_p is_q = cc
 
 pub told_maps : (seen : Option (List ℕ)) (P Q : List ℕ → Type 0) → ((c : List ℕ) → seen ≡ Some c → P c → Q c) → IfTold seen P → IfTold seen Q
 told_maps None P Q from fact = fact
 told_maps (Some c) P Q from fact = from c refl fact
 
-chosen_same : (m : ℕ) (p : List ℕ) → chosen (Sound m) (Sound m) p p ≡ Some (m, p)
+pub chosen_same : (m : ℕ) (p : List ℕ) → chosen (Sound m) (Sound m) p p ≡ Some (m, p)
 chosen_same m p = let same = same_bytes p p refl in grind (arith, nat_tests)
 
 chosen_first : (m n : ℕ) (p q : List ℕ) → m < n → chosen (Sound n) (Sound m) q p ≡ Some (n, q)
@@ -143,6 +143,19 @@ module _ (l : Layout) (n : ℕ) (q : List ℕ) (range : n < 2 ^ 64) (long_q : le
       where
         there : IsCopy l n q (copy_a l c)
         there = carried l n q (copy_a l d) (copy_a l c) (a_stands d c w) holds.0
+
+    -- what stands of the two copies meanwhile
+    pub order_a : (d c : List ℕ) → Holds l (m, p) (m, p) d → IsWriting l.a (sealed l n q) d c → IsCommitting l (m, p) (n, q) c
+    order_a d c holds w = inl (record {
+      a = ⊎_elim (λ same. inl (carried l m p (copy_a l d) (copy_a l c) (old_a d c same) holds.0)) (λ rest. inr (⊎_elim (λ shut. inl shut) (λ whole. inr (new_a c whole)) rest)) w.whole_or_shut;
+      b = carried l m p (copy_b l d) (copy_b l c) (b_stands d c w) holds.1;
+    })
+
+    pub order_b : (d c : List ℕ) → Holds l (n, q) (m, p) d → IsWriting l.b (sealed l n q) d c → IsCommitting l (m, p) (n, q) c
+    order_b d c holds w = inr (record {
+      a = carried l n q (copy_a l d) (copy_a l c) (a_stands d c w) holds.0;
+      b = ⊎_elim (λ same. inl (carried l m p (copy_b l d) (copy_b l c) (old_b d c same) holds.1)) (λ rest. inr (⊎_elim (λ shut. inl shut) (λ whole. inr (new_b c whole)) rest)) w.whole_or_shut;
+    })
 
   -- what a read gives after copy a is written, and after copy b
   pub written_a : (d : List ℕ) → l.b + copy_len l.pages ≤ length d → IsCopy l n q (copy_a l (with_bytes l.a (sealed l n q) d)) × (copy_b l (with_bytes l.a (sealed l n q) d) ≡ copy_b l d)

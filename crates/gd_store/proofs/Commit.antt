@@ -4,10 +4,10 @@ use Rattle.gd_disk.specs.Disk.{DiskState, IfTold, IsSynced, with_bytes, seen_wit
 use Rattle.gd_disk.specs.Runs.{LeavesOnly}
 use Rattle.gd_disk.proofs.Runs.{weaker, and_then}
 use Rattle.gd_store.specs.Copy.{sealed, body_of, boots, HoldsBoth, LiesWithin}
-use Rattle.gd_store.specs.Writing.{IsWriting, From}
+use Rattle.gd_store.specs.Writing.{IsWriting, IsCommitting, From}
 use Rattle.gd_store.proofs.CopyMoments.{told}
-use Rattle.gd_store.proofs.Boots.{carries, Holds, told_maps, open_a, open_b, boots_a, boots_b, written_a, written_b}
-use Rattle.gd_store.specs.declared.layout.Layout.{Layout}
+use Rattle.gd_store.proofs.Boots.{carries, Holds, told_maps, open_a, open_b, boots_a, boots_b, order_a, order_b, written_a, written_b}
+use Rattle.gd_store.specs.declared.copy.layout.Layout.{Layout}
 use Rattle.gd_disk.specs.declared.lengths.TheConstants.{PAGE_LEN}
 
 pub gate_a : (l : Layout) (m : ℕ) (p : List ℕ) (seen : Option (List ℕ)) → IfTold seen (HoldsBoth l m p) → IfTold seen (λ c. get_or c l.a 0 ≡ 0xA5)
@@ -30,6 +30,10 @@ module _ (l : Layout) (m n : ℕ) (p q copy : List ℕ) (later : m < n) (range :
   moments_a run = weaker old s1 _ _ run (λ c from.
       boots_a l n q range long_q fits.apart m p later from.0 c (told old (HoldsBoth l m p) from.0 synced from.1 holds) (subst (λ (x : List ℕ). IsWriting l.a x from.0 c) is_copy from.2))
 
+  pub orders_a : LeavesOnly old s1 (From old (IsWriting l.a copy)) → LeavesOnly old s1 (IsCommitting l (m, p) (n, q))
+  orders_a run = weaker old s1 _ _ run (λ c from.
+      order_a l n q range long_q fits.apart m p later from.0 c (told old (HoldsBoth l m p) from.0 synced from.1 holds) (subst (λ (x : List ℕ). IsWriting l.a x from.0 c) is_copy from.2))
+
   pub holds_a : s1.seen ≡ seen_with_bytes l.a copy old.seen → IfTold s1.seen (Holds l (n, q) (m, p))
   holds_a seen = subst (λ (s : Option (List ℕ)). IfTold s (Holds l (n, q) (m, p))) (sym seen) (told_written old.seen l.a copy (HoldsBoth l m p) (Holds l (n, q) (m, p)) (λ d is both.
       let long : length d ≡ old.size = old.whole d is in
@@ -39,6 +43,10 @@ module _ (l : Layout) (m n : ℕ) (p q copy : List ℕ) (later : m < n) (range :
     pub moments_b : LeavesOnly s1 s2 (From s1 (IsWriting l.b copy)) → LeavesOnly old s2 Either
     moments_b run = and_then old s1 s2 _ _ _ (moments_a run_a) run (λ c p. p) (λ c from.
         inr (boots_b l n q range long_q fits.apart m p later from.0 c (told s1 (Holds l (n, q) (m, p)) from.0 synced_a from.1 (holds_a seen_a)) (subst (λ (x : List ℕ). IsWriting l.b x from.0 c) is_copy from.2)))
+
+    pub orders_b : LeavesOnly s1 s2 (From s1 (IsWriting l.b copy)) → LeavesOnly old s2 (IsCommitting l (m, p) (n, q))
+    orders_b run = and_then old s1 s2 _ _ _ (orders_a run_a) run (λ c p. p) (λ c from.
+        order_b l n q range long_q fits.apart m p later from.0 c (told s1 (Holds l (n, q) (m, p)) from.0 synced_a from.1 (holds_a seen_a)) (subst (λ (x : List ℕ). IsWriting l.b x from.0 c) is_copy from.2))
 
     pub gate_b : IfTold s1.seen (λ c. get_or c l.b 0 ≡ 0xA5)
     gate_b = told_maps s1.seen _ _ (λ c is two. open_b l m p c two.1) (holds_a seen_a)

@@ -3,7 +3,7 @@ use Rattle.std.proofs.Common.{◌≡◌, ◌*◌, ◌∙◌, sym, ℕ, List, len
 use Rattle.std.proofs.lemmas.List.{with_items_is}
 use Rattle.gd_disk.specs.declared.lengths.TheConstants.{PAGE_COUNT, PAGE_LEN}
 use Rattle.gd_store.specs.Lending.{with_payload}
-use Rattle.gd_store.specs.Words.{room_payload}
+use Rattle.gd_store.specs.Room.{room_payload}
 use Rattle.gd_store.specs.declared.room.Room.{Room}
 
 -- what was left behind it, where it has the length of a payload

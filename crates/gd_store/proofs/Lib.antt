@@ -7,8 +7,10 @@ pub mod Pages
 pub mod Parts
 pub mod RepairMoments
 pub mod Assembled
+pub mod RunLemmas
 pub mod Sealed
 pub mod Makings
+pub mod MakingBoots
 pub mod Lent
 pub mod MakingMoments
 pub mod AnyMakings

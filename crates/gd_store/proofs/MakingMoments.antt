@@ -8,7 +8,7 @@ use Rattle.gd_disk.proofs.Written.{byte_before, byte_behind, torn_refl, torn-wri
 use Rattle.gd_store.specs.Copy.{part, copy_len, sealed, IsCopy, LiesWithin, copy_a, copy_b}
 use Rattle.gd_store.specs.Making.{AreShutting, IsMakingA, IsMakingB}
 use Rattle.gd_store.specs.Writing.{AreShut, From, IsOverOpen, IsShut, IsWriting, seen_shut}
-use Rattle.gd_store.specs.declared.layout.Layout.{Layout}
+use Rattle.gd_store.specs.declared.copy.layout.Layout.{Layout}
 use Rattle.gd_store.proofs.Boots.{carries, new_a, new_b, len_new, written_a}
 use Rattle.gd_store.proofs.Commit.{told_written}
 use Rattle.gd_store.proofs.CopyMoments.{shutting, told}

@@ -7,36 +7,11 @@ use Rattle.gd_disk.specs.declared.disk.CutUnit.TheVariants.{Call, Sync}
 use Rattle.gd_disk.specs.declared.disk.ArmedCut.{ArmedCut}
 use Rattle.gd_disk.proofs.Cuts.{after_write, no_call}
 use Rattle.gd_store.specs.Copy.{sealed, IsCopy, HoldsBoth, LiesWithin, copy_a}
-use Rattle.gd_store.specs.declared.layout.Layout.{Layout}
+use Rattle.gd_store.specs.declared.copy.layout.Layout.{Layout}
 use Rattle.gd_store.proofs.Boots.{carries, written_a, written_b}
 use Rattle.gd_store.proofs.Commit.{told_written}
 use Rattle.gd_store.proofs.Openings.{told_all}
 use Rattle.gd_disk.specs.declared.lengths.TheConstants.{PAGE_LEN}
-
--- a cut that comes at a write is of unit call
-at_write : (unit : CutUnit) (count : ℕ) → IsTrue (counts false unit) → IsWithin 0 unit count
-at_write Call count counted = tt
-at_write Sync count counted = absurd (clash counted)
-  where
-    clash : false ≡ true → ⊥
-    clash e = cc
-
-met_write : (cuts : List ArmedCut) → IsCut false cuts → CanMeet 0 cuts
-met_write [] cut = cut
-met_write (first ∷ later) cut = at_write first.unit first.count cut.0
-
--- a write alone
-pub write_run : {T E : Type 0} (r : Result T E) (old new : DiskState) → CountsCuts false r old new → Answers r old new → CutsOfRun 0 r old new
-write_run (Ok v) old new call answer = record { left = after_write old.armed new.armed call.one_less call.no_cut; no_fault = answer.no_fault; cause = tt }
-write_run (Err e) old new call answer = record {
-  left = tt;
-  no_fault = tt;
-  cause = λ was. ⊎_elim (λ cut. inl (met_write old.armed cut.0, cut.1, cut.2)) (λ fault. inr (ap length fault.0, fault.1)) (call.cause was);
-}
-
--- a good read alone
-pub read_run : {T E : Type 0} (x : T) (old new : DiskState) → new.armed ≡ old.armed → new.faults ≡ old.faults → CutsOfRun {E = E} 0 (Ok x) old new
-read_run x old new armed faults = record { left = subst (λ (cuts : List ArmedCut). CutsLeft 0 old.armed cuts) (sym armed) (no_call old.armed); no_fault = faults; cause = tt }
 
 -- what a read gives after both copies are written
 module _ (l : Layout) (n : ℕ) (p copy : List ℕ) (range : n < 2 ^ 64) (long : length p ≡ PAGE_LEN * l.pages) (is_copy : copy ≡ sealed l n p) (s1 s2 s3 : DiskState) (within : LiesWithin l s1.size) (size : s2.size ≡ s1.size) where

@@ -9,11 +9,11 @@ use Rattle.gd_store.specs.Booting.{IsFound}
 use Rattle.gd_store.specs.Copy.{found_in}
 use Rattle.gd_store.specs.Opening.{repairs_of}
 use Rattle.gd_store.specs.Repair.{Repair, NoRepair, RepairA, RepairB, repaired, syncs_of_repair}
-use Rattle.gd_store.specs.declared.found.Found.{Found}
+use Rattle.gd_store.specs.declared.copy.states.Found.{Found}
 use Rattle.gd_store.specs.Copy.{boots}
 use Rattle.gd_store.specs.Opened.{IsOpenable}
 use Rattle.gd_store.specs.Writing.{From, KeepsBoot}
-use Rattle.gd_store.specs.declared.layout.Layout.{Layout}
+use Rattle.gd_store.specs.declared.copy.layout.Layout.{Layout}
 
 -- reads, and then what keeps the boot of each image
 pub kept_boot : (l : Layout) (old mid new : DiskState) → LeavesOnly old mid (From old Unchanged) → LeavesOnly mid new (KeepsBoot l mid) → LeavesOnly old new (KeepsBoot l old)
@@ -39,18 +39,6 @@ still_synced old new openable on run seen c may =
 pub told_all : (seen : Option (List ℕ)) (P : List ℕ → Type 0) → ((c : List ℕ) → P c) → IfTold seen P
 told_all None P all = tt
 told_all (Some c) P all = all c
-
--- a read that failed is a fault, under any number
-pub read_failed : (l : Layout) (old new : DiskState) → new.armed ≡ old.armed → (old.is_on ≡ true → Rose old.faults new.faults) → IfTold old.seen (λ image. old.is_on ≡ true → CutOrFaultIn (repairs_of l image) old new)
-read_failed l old new armed fault = told_all old.seen _ (λ image on. inr (ap length armed, fault on))
-
--- reads, and then a repair that failed
-pub repair_failed : (l : Layout) (found : Found) (n : ℕ) (p : List ℕ) (old mid new : DiskState) → IfTold old.seen (λ image. IsFound l found image × (boots l image ≡ Some (n, p))) → mid.armed ≡ old.armed → mid.faults ≡ old.faults → CutOrFaultIn (syncs_of_repair (repaired found)) mid new → IfTold old.seen (λ image. old.is_on ≡ true → CutOrFaultIn (repairs_of l image) old new)
-repair_failed l found n p old mid new told armed faults cause = told_maps old.seen _ _ (λ image seen is on.
-    let same : found ≡ found_in l image = λ i. record { a = is.0.0 i; b = is.0.1 i } in
-    let none : CutsLeft 0 old.armed mid.armed = subst (λ a. CutsLeft 0 old.armed a) (sym armed) (no_call old.armed) in
-    let all : CutOrFaultIn (0 + syncs_of_repair (repaired found)) old new = failed_then 0 (syncs_of_repair (repaired found)) old mid new none faults cause in
-    subst (λ (f : Found). CutOrFaultIn (syncs_of_repair (repaired f)) old new) same (subst (λ (k : ℕ). CutOrFaultIn k old new) (omega arith) all)) told
 
 -- what is told of an image by what was found of it is so by the image
 pub by_found : (l : Layout) (old : DiskState) (found : Found) (n : ℕ) (p : List ℕ) (P : ℕ → Type 0) → IfTold old.seen (λ image. IsFound l found image × (boots l image ≡ Some (n, p))) → P (syncs_of_repair (repaired found)) → IfTold old.seen (λ image. P (repairs_of l image))

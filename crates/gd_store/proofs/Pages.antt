@@ -4,7 +4,7 @@ use Rattle.std.specs.Str.{bytes_eq}
 use Rattle.sha2.specs.Sha256.{sha256}
 use Rattle.gd_store.specs.Copy.{copy_len, part, page, page_matches, lowest_bad, stored_payload, stored_digest}
 use Rattle.gd_store.proofs.Parts.{part_part}
-use Rattle.gd_store.specs.declared.layout.Layout.{Layout}
+use Rattle.gd_store.specs.declared.copy.layout.Layout.{Layout}
 use Rattle.gd_disk.specs.declared.lengths.TheConstants.{DIGEST_LEN, DIGESTS_AT, FRAME_LEN, PAGE_LEN}
 
 module _ (l : Layout) (copy : List ℕ) (i pages : ℕ) where

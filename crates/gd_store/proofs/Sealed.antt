@@ -9,8 +9,8 @@ use Rattle.sha2.proofs.Facts256.{length-sha256}
 use Rattle.std.proofs.lemmas.Slice.Eq.{bytes_eq-Decides}
 use Rattle.gd_store.specs.Copy.{part, copy_len, header_start, page, digests, head_of, sealed, body_of, state_of, page_matches, lowest_bad, stored_sequence, stored_head, stored_seal, stored_payload, stored_digest}
 use Rattle.gd_store.proofs.Parts.{part_front, part_part, part_last, length-copy, part_start, part_number, part_head, part_digs, part_seal, part_payload}
-use Rattle.gd_store.specs.declared.layout.Layout.{Layout}
-use Rattle.gd_store.specs.declared.copy.CopyState.TheVariants.{Sound}
+use Rattle.gd_store.specs.declared.copy.layout.Layout.{Layout}
+use Rattle.gd_store.specs.declared.copy.states.CopyState.TheVariants.{Sound}
 use Rattle.gd_disk.specs.declared.lengths.TheConstants.{DIGEST_LEN, DIGESTS_AT, PAGE_LEN}
 
 pub length-digests : (n : ℕ) (payload : List ℕ) → length (digests n payload) ≡ DIGEST_LEN * n

@@ -1,9 +1,9 @@
 -- What a boot answers.
 use Rattle.std.specs.Prelude.{◌≡◌, ℕ, nat_lt, if◌then◌else◌, List, Result, Ok, Err, Option, Some, None}
 use Rattle.gd_store.specs.Copy.{state_of, copy_a, copy_b, boots}
-use Rattle.gd_store.specs.declared.layout.Layout.{Layout}
-use Rattle.gd_store.specs.declared.found.Found.{Found}
-use Rattle.gd_store.specs.declared.copy.CopyState.{CopyState}
+use Rattle.gd_store.specs.declared.copy.layout.Layout.{Layout}
+use Rattle.gd_store.specs.declared.copy.states.Found.{Found}
+use Rattle.gd_store.specs.declared.copy.states.CopyState.{CopyState}
 use Rattle.gd_store.specs.declared.booting.Booted.{Booted}
 use Rattle.gd_store.specs.declared.room.Room.{Room}
 

@@ -1,7 +1,7 @@
 -- Which of two copies is booted, as the code says it.
 use Rattle.std.specs.Prelude.{ℕ, List, Option, Some, None}
-use Rattle.gd_store.specs.declared.reading.Choice.{Choice}
-use Rattle.gd_store.specs.declared.reading.Choice.TheVariants.{CopyA, CopyB, Lost}
+use Rattle.gd_store.specs.declared.booting.Choice.{Choice}
+use Rattle.gd_store.specs.declared.booting.Choice.TheVariants.{CopyA, CopyB, Lost}
 
 -- the sequence and the payload that a choice means, of two copies with these payloads
 abbrev pub spelled : Choice → List ℕ → List ℕ → Option (ℕ × List ℕ)

@@ -1,13 +1,14 @@
 -- A sealed copy of a payload, and what two of them boot to.
-use Rattle.std.specs.Prelude.{Bool, ◌≡◌, ℕ, zero, suc, ◌+◌, ◌*◌, ◌^◌, ◌<◌, ◌≤◌, ◌==◌, if◌then◌else◌, nat_lt, List, [], ◌∷◌, ◌++◌, take, drop, slice_index, Option, Some, None}
+use Rattle.std.specs.Prelude.{Bool, true, false, ◌≡◌, ℕ, zero, suc, ◌+◌, ◌*◌, ◌^◌, ◌<◌, ◌≤◌, ◌==◌, if◌then◌else◌, nat_lt, List, [], ◌∷◌, ◌++◌, take, drop, slice_index, Option, Some, None}
 use Rattle.std.specs.Int.{w16, w64, to_be_bytes, from_be_bytes}
 use Rattle.std.specs.Str.{bytes_eq}
 use Rattle.sha2.specs.Sha256.{sha256}
-use Rattle.gd_store.specs.declared.layout.Layout.{Layout}
-use Rattle.gd_store.specs.declared.found.Found.{Found}
-use Rattle.gd_store.specs.declared.copy.Why.TheVariants.{Shut, BadHeader, BadRoot, BadPage}
-use Rattle.gd_store.specs.declared.copy.CopyState.{CopyState}
-use Rattle.gd_store.specs.declared.copy.CopyState.TheVariants.{Sound, Bad}
+use Rattle.gd_store.specs.declared.copy.layout.Layout.{Layout}
+use Rattle.gd_store.specs.declared.copy.states.Found.{Found}
+use Rattle.gd_store.specs.declared.copy.states.Why.TheVariants.{Shut, BadHeader, BadRoot, BadPage}
+use Rattle.gd_store.specs.declared.copy.states.CopyState.{CopyState}
+use Rattle.gd_store.specs.declared.copy.states.CopyState.TheVariants.{Sound, Bad}
+use Rattle.gd_disk.specs.declared.side.Side.{Side}
 use Rattle.gd_disk.specs.declared.lengths.TheConstants.{DIGEST_LEN, DIGESTS_AT, FRAME_LEN, HEADER_LEN, PAGE_LEN}
 
 -- n bytes of a list from a place on
@@ -97,6 +98,15 @@ copy_a l image = part l.a (copy_len l.pages) image
 abbrev pub copy_b : Layout → List ℕ → List ℕ
 copy_b l image = part l.b (copy_len l.pages) image
 
+-- the place of a copy's gate, and its bytes, by which of the two it is
+abbrev pub gate_at : Layout → Side → ℕ
+gate_at l Side.A = l.a
+gate_at l Side.B = l.b
+
+abbrev pub copy_at : Layout → Side → List ℕ → List ℕ
+copy_at l Side.A image = copy_a l image
+copy_at l Side.B image = copy_b l image
+
 -- of two copies with these states and payloads, sequence and payload of the sound one with the later sequence; none where
 -- no copy is sound, or both are with one sequence and different payloads
 abbrev pub chosen : CopyState → CopyState → List ℕ → List ℕ → Option (ℕ × List ℕ)
@@ -116,6 +126,20 @@ IsCopy l sequence payload copy = (state_of l copy ≡ Sound sequence) × (stored
 -- both copies hold this payload at this sequence
 abbrev pub HoldsBoth : Layout → ℕ → List ℕ → List ℕ → Type 0
 HoldsBoth l sequence payload image = IsCopy l sequence payload (copy_a l image) × IsCopy l sequence payload (copy_b l image)
+
+-- both copies of what a read gives hold the payload, where the disk tells it
+abbrev pub Holds : Layout → ℕ → List ℕ → Option (List ℕ) → Type 0
+Holds l sequence payload seen = (image : List ℕ) → seen ≡ Some image → HoldsBoth l sequence payload image
+
+-- as it was sealed
+abbrev pub is_sound : CopyState → Bool
+is_sound (Sound sequence) = true
+is_sound (Bad why) = false
+
+-- no copy is sound
+pub record AreBad (l : Layout) (image : List ℕ) : Type 0 where
+  pub a : is_sound (state_of l (copy_a l image)) ≡ false
+  pub b : is_sound (state_of l (copy_b l image)) ≡ false
 
 -- the states of the two copies of an image
 abbrev pub found_in : Layout → List ℕ → Found

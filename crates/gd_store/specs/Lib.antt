@@ -6,8 +6,9 @@ pub mod Lost
 pub mod Making
 pub mod Opened
 pub mod Opening
+pub mod Reads
 pub mod Repair
+pub mod Room
 pub mod Store
-pub mod Words
 pub mod Writing
 pub mod Zeros

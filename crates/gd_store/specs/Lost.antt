@@ -1,8 +1,8 @@
 -- Where nothing can be booted.
 use Rattle.std.specs.Prelude.{◌≡◌, ◌≢◌, ℕ, List}
 use Rattle.gd_store.specs.Copy.{state_of, stored_payload, copy_a, copy_b}
-use Rattle.gd_store.specs.declared.layout.Layout.{Layout}
-use Rattle.gd_store.specs.declared.copy.CopyState.{CopyState}
+use Rattle.gd_store.specs.declared.copy.layout.Layout.{Layout}
+use Rattle.gd_store.specs.declared.copy.states.CopyState.{CopyState}
 use Rattle.gd_store.specs.declared.booting.Booted.{Booted}
 use Rattle.gd_store.specs.declared.opening.Opened.{Opened}
 

@@ -1,8 +1,8 @@
 -- The making of a memory: what it answers, and what it leaves at each moment.
 use Rattle.std.specs.Prelude.{◌≡◌, ◌⊎◌, ℕ, List, ◌∷◌, drop, slice_index, Option, Some, Result, Ok, Err}
-use Rattle.gd_store.specs.Copy.{IsCopy, copy_a, copy_b}
+use Rattle.gd_store.specs.Copy.{IsCopy, AreBad, boots, copy_a, copy_b}
 use Rattle.gd_store.specs.Writing.{IsShut}
-use Rattle.gd_store.specs.declared.layout.Layout.{Layout}
+use Rattle.gd_store.specs.declared.copy.layout.Layout.{Layout}
 use Rattle.gd_store.specs.declared.room.Room.{Room}
 use Rattle.gd_store.specs.declared.making.Made.{Made}
 
@@ -56,6 +56,10 @@ pub record IsMakingB (l : Layout) (payload new : List ℕ) : Type 0 where
 -- at a moment of a making over an image
 abbrev pub IsMaking : Layout → List ℕ → List ℕ → List ℕ → Type 0
 IsMaking l payload old new = AreShutting l old new ⊎ (IsMakingA l payload new ⊎ IsMakingB l payload new)
+
+-- an image of a making over another: both copies are bad where they were, or the payload is booted
+abbrev pub BootsOver : Layout → List ℕ → List ℕ → List ℕ → Type 0
+BootsOver l payload old new = (AreBad l old → AreBad l new) ⊎ (boots l new ≡ Some (0, payload))
 
 -- the same over a disk where writes may wait for a sync
 abbrev pub IsMakingAny : Layout → List ℕ → Option (List ℕ) → List ℕ → List ℕ → Type 0

@@ -3,7 +3,7 @@ use Rattle.std.specs.Prelude.{◌≡◌, ◌⊎◌, false, Result, Ok, Err}
 use Rattle.gd_disk.specs.Disk.{DiskState, IsSynced}
 use Rattle.gd_disk.specs.CutRuns.{IsCompleteRun, RunOf}
 use Rattle.gd_store.specs.Repair.{repaired, syncs_of_repair}
-use Rattle.gd_store.specs.declared.found.Found.{Found}
+use Rattle.gd_store.specs.declared.copy.states.Found.{Found}
 use Rattle.gd_store.specs.declared.room.Room.{Room}
 use Rattle.gd_store.specs.declared.store.Store.{Store}
 use Rattle.gd_store.specs.declared.opening.Opened.{Opened}

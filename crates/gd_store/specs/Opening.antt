@@ -3,9 +3,9 @@ use Rattle.std.specs.Prelude.{◌≡◌, ℕ, ◌==◌, Bool, false, List, Some}
 use Rattle.gd_store.specs.Copy.{copy_a, copy_b, boots, found_in}
 use Rattle.gd_store.specs.Booting.{IsFound}
 use Rattle.gd_store.specs.Repair.{repaired, syncs_of_repair}
-use Rattle.gd_store.specs.declared.layout.Layout.{Layout}
-use Rattle.gd_store.specs.declared.copy.CopyState.{CopyState}
-use Rattle.gd_store.specs.declared.found.Found.{Found}
+use Rattle.gd_store.specs.declared.copy.layout.Layout.{Layout}
+use Rattle.gd_store.specs.declared.copy.states.CopyState.{CopyState}
+use Rattle.gd_store.specs.declared.copy.states.Found.{Found}
 
 -- sound at this sequence
 abbrev pub is_at : CopyState → ℕ → Bool

@@ -1,7 +1,13 @@
 -- Which copy an opening writes anew.
 use Rattle.std.specs.Prelude.{ℕ, ◌==◌, nat_lt, if◌then◌else◌}
-use Rattle.gd_store.specs.declared.found.Found.{Found}
-use Rattle.gd_store.specs.declared.copy.CopyState.{CopyState}
+use Rattle.gd_store.specs.declared.copy.states.Found.{Found}
+use Rattle.gd_store.specs.declared.copy.states.CopyState.{CopyState}
+use Rattle.gd_disk.specs.declared.side.Side.{Side}
+
+-- the other one of the two copies
+abbrev pub other_side : Side → Side
+other_side Side.A = Side.B
+other_side Side.B = Side.A
 
 -- a copy, or none
 pub data Repair : Type 0 where

@@ -1,7 +1,7 @@
 -- What the writing of one copy leaves.
 use Rattle.std.specs.Prelude.{◌≡◌, ◌≢◌, ◌⊎◌, ℕ, ◌+◌, ◌<◌, ◌≤◌, List, [], ◌∷◌, length, slice_index, Result, OnOk, OnErr, Option, if◌then◌else◌, ◌==◌}
-use Rattle.gd_store.specs.Copy.{part, boots}
-use Rattle.gd_store.specs.declared.layout.Layout.{Layout}
+use Rattle.gd_store.specs.Copy.{part, boots, copy_a, copy_b, IsCopy}
+use Rattle.gd_store.specs.declared.copy.layout.Layout.{Layout}
 use Rattle.gd_disk.specs.Disk.{seen_with_bytes, DiskState, Torn}
 
 -- the gate at this place isn't open
@@ -40,6 +40,20 @@ pub record MadeSyncs {T E : Type 0} (n : ℕ) (result : Result T E) (old new : D
   pub all : OnOk result (new.syncs ≡ old.syncs + n)
   pub fewer : OnErr result (new.syncs < old.syncs + n)
   pub no_less : old.syncs ≤ new.syncs
+
+-- while copy a is written over by a commit: it's the old one, or it's shut, or it's the new one, and copy b is the old one
+pub record IsCommittingA (l : Layout) (old new : ℕ × List ℕ) (image : List ℕ) : Type 0 where
+  pub a : IsCopy l old.0 old.1 (copy_a l image) ⊎ (IsShut l.a image ⊎ IsCopy l new.0 new.1 (copy_a l image))
+  pub b : IsCopy l old.0 old.1 (copy_b l image)
+
+-- while copy b is written over: copy a is the new one
+pub record IsCommittingB (l : Layout) (old new : ℕ × List ℕ) (image : List ℕ) : Type 0 where
+  pub a : IsCopy l new.0 new.1 (copy_a l image)
+  pub b : IsCopy l old.0 old.1 (copy_b l image) ⊎ (IsShut l.b image ⊎ IsCopy l new.0 new.1 (copy_b l image))
+
+-- at a moment of a commit, from both copies at the old sequence and payload to both at the new: copy a, and then copy b
+abbrev pub IsCommitting : Layout → ℕ × List ℕ → ℕ × List ℕ → List ℕ → Type 0
+IsCommitting l old new image = IsCommittingA l old new image ⊎ IsCommittingB l old new image
 
 -- an image that boots to what one that may be found before boots to
 abbrev pub KeepsBoot : Layout → DiskState → List ℕ → Type 0

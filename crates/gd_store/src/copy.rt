@@ -1,22 +1,9 @@
-// What a copy is found to be.
+//! The two sealed copies on a disk: their bytes, where they stand, and how they are written.
 
-/// Why a copy isn't sound: the first of these that applies.
-#[derive(Clone, Copy, Debug, PartialEq, Eq, Drop)]
-pub enum Why {
-    /// Its gate isn't open.
-    Shut,
-    /// Its header isn't that of the layout, in name, version or page count.
-    BadHeader,
-    /// The seal isn't the digest of the header and the kept digests.
-    BadRoot,
-    /// The lowest page whose kept digest isn't its digest.
-    BadPage(u8),
-}
+mod layout;
+pub(crate) mod sealing;
+mod states;
+pub(crate) mod writing;
 
-/// What a copy is found to be.
-#[derive(Clone, Copy, Debug, PartialEq, Eq, Drop)]
-pub enum CopyState {
-    /// It is as it was sealed, at this sequence.
-    Sound(u64),
-    Bad(Why),
-}
+pub use layout::{LAYOUT, Layout};
+pub use states::{CopyState, Found, Why};

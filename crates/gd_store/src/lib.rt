@@ -3,26 +3,16 @@
 #![tactic(auto)]
 
 mod booting;
-mod committing;
 mod copy;
-mod found;
-mod laboratory;
-mod layout;
 mod making;
 mod opening;
-mod reading;
-mod repairing;
 mod room;
-mod sealing;
 mod store;
 #[cfg(test)]
 mod tests;
-mod writing;
 
 pub use booting::{Booted, boot};
-pub use copy::{CopyState, Why};
-pub use found::Found;
-pub use layout::{LAYOUT, Layout};
+pub use copy::{CopyState, Found, LAYOUT, Layout, Why};
 pub use making::Made;
 pub use opening::Opened;
 pub use room::Room;

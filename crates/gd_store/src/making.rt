@@ -1,15 +1,17 @@
-// The making of a memory.
-ghost use Rattle.std.specs.Prelude.{◌≡◌, ◌+◌, ◌*◌, ◌≤◌, length, slice_index, IfOk, OnOk};
-ghost use Rattle.gd_disk.specs.Disk.{IfTold, Unchanged, IsSynced, Answers};
+//! The making of a memory.
+
+ghost use Rattle.std.specs.Prelude.{◌≡◌, ◌+◌, ◌*◌, ◌<◌, ◌≤◌, length, slice_index, IfOk, OnOk, OnErr};
+ghost use Rattle.gd_disk.specs.Disk.{IfTold, Unchanged, IsSynced, Answers, next_count};
 ghost use Rattle.gd_disk.specs.CutRuns.{RunOf};
 ghost use Rattle.gd_disk.specs.Runs.{LeavesOnly, CutsOfRun};
 ghost use Rattle.gd_store.specs.Copy.{HoldsBoth, LiesWithin, copy_len};
-ghost use Rattle.gd_store.specs.Words.{room_payload};
+ghost use Rattle.gd_store.specs.Reads.{HasReadBoth, HasReadSome};
+ghost use Rattle.gd_store.specs.Room.{room_payload};
 ghost use Rattle.gd_store.specs.Writing.{AreShut, From, MadeSyncs};
-ghost use Rattle.gd_store.specs.Making.{made_disk, made_room, made_outcome, AreShutting, AreShuttingAny, IsMaking, IsMakingAny};
+ghost use Rattle.gd_store.specs.Making.{made_disk, made_room, made_outcome, AreShutting, AreShuttingAny, IsMaking, IsMakingAny, BootsOver};
 
-use crate::sealing::seal_body;
-use crate::writing::{shut_open, write_shut};
+use crate::copy::sealing::seal_body;
+use crate::copy::writing::{shut_open, write_shut};
 use crate::{LAYOUT, Layout, Room, Store};
 use gd_disk::{DISK_LEN, Disk, Off, PAGE_LEN};
 
@@ -32,11 +34,14 @@ impl<D: Disk> Store<D> {
         ensures done { OnOk (made_outcome result) (IfTold (D.state (made_disk result)).seen (HoldsBoth LAYOUT 0 (room_payload room))) }
         ensures synced { OnOk (made_outcome result) (IsSynced (D.state (made_disk result))) }
         ensures any_moment { IsSynced (D.state disk) → LeavesOnly (D.state disk) (D.state (made_disk result)) (From (D.state disk) (IsMaking LAYOUT (room_payload room))) }
+        ensures boots { IsSynced (D.state disk) → LeavesOnly (D.state disk) (D.state (made_disk result)) (From (D.state disk) (BootsOver LAYOUT (room_payload room))) }
         ensures waiting { LeavesOnly (D.state disk) (D.state (made_disk result)) (From (D.state disk) (IsMakingAny LAYOUT (room_payload room) (D.state disk).seen)) }
         ensures answer { Answers (made_outcome result) (D.state disk) (D.state (made_disk result)) }
         ensures syncs { MadeSyncs 5 (made_outcome result) (D.state disk) (D.state (made_disk result)) }
         ensures cuts { CutsOfRun 5 (made_outcome result) (D.state disk) (D.state (made_disk result)) }
         ensures run { RunOf 5 (made_outcome result) (D.state disk) (D.state (made_disk result)) }
+        ensures read { OnOk (made_outcome result) (HasReadBoth (D.state disk).reads (D.state (made_disk result)).reads) }
+        ensures read_some { OnErr (made_outcome result) (HasReadSome (D.state disk).reads (D.state (made_disk result)).reads) }
         ensures payload { room_payload (made_room result) ≡ room_payload room }
     {
         let mut disk = disk;
@@ -64,9 +69,10 @@ fn make_both<D: Disk>(
     ensures any_moment { IsSynced (D.state disk.old) → LeavesOnly (D.state disk.old) (D.state disk.new) (From (D.state disk.old) (IsMaking layout payload.now)) }
     ensures waiting { LeavesOnly (D.state disk.old) (D.state disk.new) (From (D.state disk.old) (IsMakingAny layout payload.now (D.state disk.old).seen)) }
     ensures answer { Answers result (D.state disk.old) (D.state disk.new) }
-    ensures syncs { MadeSyncs 5 result (D.state disk.old) (D.state disk.new) }
-    ensures cuts { CutsOfRun 5 result (D.state disk.old) (D.state disk.new) }
+    ensures fewer { OnErr result ((D.state disk.new).syncs < (D.state disk.old).syncs + 5) }
     ensures run { RunOf 5 result (D.state disk.old) (D.state disk.new) }
+    ensures read { OnOk result (HasReadBoth (D.state disk.old).reads (D.state disk.new).reads) }
+    ensures read_some { OnErr result (HasReadSome (D.state disk.old).reads (D.state disk.new).reads) }
 {
     shut_both(disk, layout)?;
     seal_body(layout, 0, payload, body);
@@ -82,9 +88,10 @@ fn shut_both<D: Disk>(disk: &mut D, layout: Layout) -> Result<(), Off>
     ensures any_moment { IsSynced (D.state disk.old) → LeavesOnly (D.state disk.old) (D.state disk.new) (From (D.state disk.old) (AreShutting layout)) }
     ensures waiting { LeavesOnly (D.state disk.old) (D.state disk.new) (From (D.state disk.old) (AreShuttingAny layout (D.state disk.old).seen)) }
     ensures answer { Answers result (D.state disk.old) (D.state disk.new) }
-    ensures syncs { MadeSyncs 1 result (D.state disk.old) (D.state disk.new) }
-    ensures cuts { CutsOfRun 1 result (D.state disk.old) (D.state disk.new) }
+    ensures fewer { OnErr result ((D.state disk.new).syncs < (D.state disk.old).syncs + 1) }
     ensures run { RunOf 1 result (D.state disk.old) (D.state disk.new) }
+    ensures read { OnOk result (HasReadBoth (D.state disk.old).reads (D.state disk.new).reads) }
+    ensures read_some { OnErr result (HasReadSome (D.state disk.old).reads (D.state disk.new).reads) }
 {
     let gate_a = read_gate(disk, layout.a)?;
     let gate_b = read_gate(disk, layout.b)?;
@@ -101,8 +108,9 @@ fn read_gate<D: Disk>(disk: &mut D, at: u64) -> Result<u8, Off>
     ensures any_moment { LeavesOnly (D.state disk.old) (D.state disk.new) (From (D.state disk.old) Unchanged) }
     ensures answer { Answers result (D.state disk.old) (D.state disk.new) }
     ensures syncs { (D.state disk.new).syncs ≡ (D.state disk.old).syncs }
-    ensures cuts { CutsOfRun 0 result (D.state disk.old) (D.state disk.new) }
     ensures run { RunOf 0 result (D.state disk.old) (D.state disk.new) }
+    ensures read { OnOk result ((D.state disk.new).reads ≡ next_count (D.state disk.old).reads) }
+    ensures not_read { OnErr result ((D.state disk.new).reads ≡ (D.state disk.old).reads) }
 {
     let mut byte = [0];
     disk.read(at, &mut byte)?;

@@ -1,4 +1,5 @@
-// Memory for two copies and a payload.
+//! Memory for two copies and a payload.
+
 ghost use Rattle.std.specs.Prelude.{◌≡◌, ◌*◌, length, IfOk};
 ghost use Rattle.std.specs.Borrow.{sem};
 ghost use Rattle.gd_store.specs.Zeros.{AreZeros};
@@ -19,7 +20,7 @@ pub struct Room {
 }
 
 impl Room {
-    ghost use Rattle.gd_store.specs.Words.{room_payload};
+    ghost use Rattle.gd_store.specs.Room.{room_payload};
     ghost use Rattle.gd_store.specs.Lending.{LendsPayload};
 
     /// Room with a payload of zeros. The error comes where the memory isn't to be had.

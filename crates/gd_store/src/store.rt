@@ -1,12 +1,14 @@
-// A payload in both copies on a disk.
+//! A payload in both copies on a disk.
+
 ghost use Rattle.std.specs.Prelude.{◌≡◌, true, false};
 ghost use Rattle.gd_disk.specs.Disk.{IsSynced};
 ghost use Rattle.gd_disk.specs.declared.lengths.TheConstants.{DISK_LEN};
-ghost use Rattle.gd_store.specs.declared.layout.TheConstants.{LAYOUT};
-ghost use Rattle.gd_store.specs.Store.{Holds};
+ghost use Rattle.gd_store.specs.declared.copy.layout.TheConstants.{LAYOUT};
+ghost use Rattle.gd_store.specs.Copy.{Holds};
 
-use crate::Room;
-use gd_disk::Disk;
+use crate::copy::writing::write_both;
+use crate::{LAYOUT, Room};
+use gd_disk::{CutUnit, Disk, LabDisk, Off, PAGE_COUNT, PAGE_LEN};
 
 /// A payload that both copies on a disk hold at one sequence, until a call to the disk fails. From then on nothing
 /// is committed.
@@ -23,10 +25,15 @@ pub struct Store<D: Disk> {
 }
 
 impl<D: Disk> Store<D> {
-    ghost use Rattle.std.specs.Prelude.{◌≡◌, ◌*◌, List, ℕ, Some, length, true, false};
+    ghost use Rattle.std.specs.Prelude.{◌*◌, List, ℕ, Some, length, ◌⊎◌, ◌+◌, ◌<◌, ◌^◌, OnOk, OnErr, IsErr};
     ghost use Rattle.gd_disk.specs.declared.lengths.TheConstants.{PAGE_COUNT, PAGE_LEN};
     ghost use Rattle.gd_store.specs.Copy.{HoldsBoth, boots};
-    ghost use Rattle.gd_store.specs.Words.{room_payload, store_disk, store_payload, store_sequence, store_stopped};
+    ghost use Rattle.gd_store.specs.Room.{room_payload};
+    ghost use Rattle.gd_store.specs.Store.{store_disk, store_payload, store_sequence, store_stopped};
+    ghost use Rattle.gd_disk.specs.Disk.{IfTold, Unchanged, Answers, next_count};
+    ghost use Rattle.gd_disk.specs.CutRuns.{RunOf};
+    ghost use Rattle.gd_disk.specs.Runs.{LeavesOnly};
+    ghost use Rattle.gd_store.specs.Writing.{From, IsCommitting};
 
     /// The payload that was last booted or committed, also after a call that failed: `PAGE_COUNT` pages of
     /// `PAGE_LEN` bytes.
@@ -70,5 +77,85 @@ impl<D: Disk> Store<D> {
         ensures settled { store_stopped self ≡ false → (image : List ℕ) → (D.state result.0).seen ≡ Some image → HoldsBoth LAYOUT (store_sequence self) (store_payload self) image }
     {
         (self.disk, self.room)
+    }
+
+    /// Writes a payload of `PAGE_COUNT` pages of `PAGE_LEN` bytes over both copies, with the sequence raised by one.
+    /// At Ok both copies hold it in each image that a loss of power may leave, and six syncs were made. The error comes
+    /// where a call to the disk failed: now, or at an earlier commit. Then the store is stopped, and has the payload
+    /// that it had before.
+    pub fn commit(&mut self, payload: &[u8]) -> Result<(), Off>
+        requires length { length payload.now ≡ PAGE_LEN * PAGE_COUNT }
+        requires sequence { store_sequence self.old < 2 ^ 36 }
+        ensures committed { OnOk result ((store_sequence self.new ≡ store_sequence self.old + 1) × (store_payload self.new ≡ payload.now) × (store_stopped self.new ≡ false)) }
+        ensures stays { OnErr result ((store_sequence self.new ≡ store_sequence self.old) × (store_payload self.new ≡ store_payload self.old) × (store_stopped self.new ≡ true)) }
+        ensures after_off { store_stopped self.old ≡ true → IsErr result × ((D.state (store_disk self.old)).is_on ≡ false)
+            × ((D.state (store_disk self.new)).stops ≡ next_count (D.state (store_disk self.old)).stops)
+            × LeavesOnly (D.state (store_disk self.old)) (D.state (store_disk self.new)) (From (D.state (store_disk self.old)) Unchanged) }
+        ensures any_moment { store_stopped self.old ≡ false → LeavesOnly (D.state (store_disk self.old)) (D.state (store_disk self.new))
+            (λ image. (boots LAYOUT image ≡ Some (store_sequence self.old, store_payload self.old)) ⊎ (boots LAYOUT image ≡ Some (store_sequence self.old + 1, payload.now))) }
+        ensures order { store_stopped self.old ≡ false → LeavesOnly (D.state (store_disk self.old)) (D.state (store_disk self.new))
+            (IsCommitting LAYOUT (store_sequence self.old, store_payload self.old) (store_sequence self.old + 1, payload.now)) }
+        ensures answer { Answers result (D.state (store_disk self.old)) (D.state (store_disk self.new)) }
+        ensures fewer { OnErr result ((D.state (store_disk self.new)).syncs < (D.state (store_disk self.old)).syncs + 6) }
+        ensures run { RunOf 6 result (D.state (store_disk self.old)) (D.state (store_disk self.new)) }
+        ensures reads { (D.state (store_disk self.new)).reads ≡ (D.state (store_disk self.old)).reads }
+    {
+        if self.is_stopped {
+            self.disk.sync()?;
+            return Err(Off);
+        }
+        let body = &mut self.room.a[1..];
+        match write_both(
+            &mut self.disk,
+            LAYOUT,
+            self.sequence,
+            &self.room.payload,
+            payload,
+            body,
+        ) {
+            Ok(()) => {
+                self.room.payload.copy_from_slice(payload);
+                self.sequence += 1;
+                Ok(())
+            }
+            Err(off) => {
+                self.is_stopped = true;
+                Err(off)
+            }
+        }
+    }
+}
+
+impl<L: LabDisk> Store<L> {
+    ghost use Rattle.std.specs.Prelude.{◌≤◌, ◌<◌, ◌++◌, ◌∷◌, [], length};
+    ghost use Rattle.gd_disk.specs.Disk.{Loses, Unchanged, KeepsCounts};
+    ghost use Rattle.gd_store.specs.Store.{store_disk, store_payload, store_sequence, store_stopped};
+
+    /// Adds a cut behind the armed ones of the disk, as its own call does, and changes nothing else. It comes at call
+    /// `count` of its unit, counted from 1 from when it is the first; `torn` says what it leaves.
+    pub fn arm(&mut self, unit: CutUnit, count: u32, torn: u8)
+        requires room { length (L.state (store_disk self.old)).armed < 256 }
+        requires count { 1 ≤ count }
+        requires torn { torn ≤ 3 }
+        ensures armed { (L.state (store_disk self.new)).armed ≡ (L.state (store_disk self.old)).armed ++ record { unit = unit; count = count; torn = torn } ∷ [] }
+        ensures power { (L.state (store_disk self.new)).is_on ≡ (L.state (store_disk self.old)).is_on }
+        ensures seen { (L.state (store_disk self.new)).seen ≡ (L.state (store_disk self.old)).seen }
+        ensures loss { Loses Unchanged (L.state (store_disk self.old)) (L.state (store_disk self.new)) }
+        ensures counts { KeepsCounts (L.state (store_disk self.old)) (L.state (store_disk self.new)) }
+        ensures found { (L.state (store_disk self.new)).found ≡ (L.state (store_disk self.old)).found }
+        ensures faults { (L.state (store_disk self.new)).faults ≡ (L.state (store_disk self.old)).faults }
+        ensures sequence { store_sequence self.new ≡ store_sequence self.old }
+        ensures payload { store_payload self.new ≡ store_payload self.old }
+        ensures stopped { store_stopped self.new ≡ store_stopped self.old }
+    {
+        self.disk.arm(unit, count, torn);
+    }
+
+    /// How many cuts are armed in the disk. A call that failed with the power on was cut where it lowered this number,
+    /// and else had a fault.
+    pub fn cuts_armed(&self) -> u32
+        ensures { result ≡ length (L.state (store_disk self.now)).armed }
+    {
+        self.disk.cuts_armed()
     }
 }

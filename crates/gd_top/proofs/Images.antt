@@ -10,8 +10,8 @@ use Rattle.gd_cabinet.proofs.Showing.{settled_shows}
 use Rattle.gd_disk.specs.Disk.{DiskState, IfTold, IsSynced, Loses, Unchanged}
 use Rattle.gd_disk.specs.Runs.{LeavesOnly}
 use Rattle.gd_store.specs.Copy.{chosen, copy_a, copy_b, state_of, stored_payload}
-use Rattle.gd_store.specs.declared.copy.CopyState.{CopyState}
-use Rattle.gd_store.specs.declared.layout.TheConstants.{LAYOUT}
+use Rattle.gd_store.specs.declared.copy.states.CopyState.{CopyState}
+use Rattle.gd_store.specs.declared.copy.layout.TheConstants.{LAYOUT}
 use Rattle.gd_store.proofs.Sealed.{same_bytes}
 use Rattle.gd_top.specs.Carrying.{ShowsNear}
 use Rattle.gd_top.specs.Running.{IsSettled}

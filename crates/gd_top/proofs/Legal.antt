@@ -15,7 +15,7 @@ use Rattle.gd_base.proofs.AnswerLemmas.Answer.{new_entry}
 use Rattle.gd_disk.specs.Waits.{Waits, SyncsLeft, ByCalls, waits_for}
 use Rattle.gd_script.specs.declared.item.Item.{Item}
 use Rattle.gd_script.specs.Items.{order_event}
-use Rattle.gd_store.specs.declared.found.Found.{Found}
+use Rattle.gd_store.specs.declared.copy.states.Found.{Found}
 use Rattle.gd_store.specs.Repair.{Repair, repaired, syncs_of_repair}
 use Rattle.gd_top.specs.Items.{below_limit, at_limit, in_trial, with_power, next_numbered, event_told, order_of, again_told, off_told, rested, on_told, alter_told, clear_told, item_told, one_more, line_told, lines_told}
 use Rattle.gd_top.specs.Legal.{OneLegalHistory, OneLegalHistoryOverImages}

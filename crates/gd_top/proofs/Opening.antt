@@ -15,8 +15,8 @@ use Rattle.gd_cabinet.specs.Shown.{shows}
 use Rattle.gd_disk.specs.Disk.{DiskState}
 use Rattle.gd_store.specs.Copy.{found_in}
 use Rattle.gd_store.specs.Repair.{Repair, repaired, syncs_of_repair}
-use Rattle.gd_store.specs.declared.found.Found.{Found}
-use Rattle.gd_store.specs.declared.layout.TheConstants.{LAYOUT}
+use Rattle.gd_store.specs.declared.copy.states.Found.{Found}
+use Rattle.gd_store.specs.declared.copy.layout.TheConstants.{LAYOUT}
 use Rattle.gd_top.specs.Carrying.{Standing, Unseen, Outside, Moves, FoundSince, CarriesBy, IsOver, ShowsNear, GivesText, at, finds, standing, IsWhole}
 use Rattle.gd_top.specs.Lines.{power_line, start_line, start_text}
 use Rattle.gd_top.specs.Offers.{is_broken, counted, unless_broken, Offer, offer, syncs_of_event}

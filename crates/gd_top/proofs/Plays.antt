@@ -27,8 +27,8 @@ use Rattle.gd_base.proofs.BoolTests.{both, all_told, at_most, is_so}
 use Rattle.gd_base.proofs.SoFarLemmas.Rules.{IsCounted, IsKeptPlay, counted, counts_at, reels_only}
 use Rattle.gd_base.proofs.SoFarLemmas.Steps.{IsOfRound, effect_refused, effect_bill, effect_start, effect_play, effect_pick, effect_take, view_moved, still_open}
 use Rattle.gd_base.proofs.HistoryLemmas.Wins.{most_win}
-use Rattle.gd_play.specs.Judging.{refusal, judged}
-use Rattle.gd_play.specs.Moving.{phase_of, replayed, play_after, phase_after}
+use Rattle.gd_play.specs.Judging.{refusal, judgement}
+use Rattle.gd_play.specs.Moving.{phase_of, play_with_round, play_after, phase_after}
 use Rattle.gd_top.specs.declared.first_core.books.Books.{Books}
 use Rattle.gd_top.specs.declared.first_core.reels_table.ReelsTable.{ReelsTable}
 use Rattle.gd_top.specs.Books.{AreFit, HasRoom, acted, begun, is_fresh, left_at, replied, settled, view_of, with_bill, with_wager}
@@ -95,7 +95,7 @@ fresh_plain p h =
     let bet : is_bet Game.Reels p.bet ≡ true = sym (ap (λ (g : Game). is_bet g p.bet) game) ∙ t1.1 in
     record { game = game; bet = at_most p.bet 9 (both (nat_le 1 p.bet) (nat_le p.bet 9) bet).1; turns = is_so p.turns 0 t3.1 }
 
-pub fresh_small : (setup : Setup) (p : PlayRecord) → IsPlainPlay p → IsSmall (Some (replayed setup p (round_of p)))
+pub fresh_small : (setup : Setup) (p : PlayRecord) → IsPlainPlay p → IsSmall (Some (play_with_round setup p (round_of p)))
 fresh_small setup p k = stage_small setup p p.choice k
 
 -- by whatever setup the machine's table has
@@ -158,7 +158,7 @@ settled_view setup StageOpen.Gamble is_ended b p start r is same =
 
 -- the record that the machine keeps is that of the history
 kept_record : (setup : Setup) (count : ℕ) (p : PlayRecord) (c : Choices) → IsKeptPlay setup count (Some p)
-    → replayed setup p (record (round_of p) { choices = c }) ≡ play_record setup (p.number, p.before) 0 (record (round_of p) { choices = c })
+    → play_with_round setup p (record (round_of p) { choices = c }) ≡ play_record setup (p.number, p.before) 0 (record (round_of p) { choices = c })
 kept_record setup count p c k =
     let r = record (round_of p) { choices = c } in
     let win = p.win == (stage setup p.game p.bet p.words (choices_of p)).win in
@@ -166,7 +166,7 @@ kept_record setup count p c k =
     let t = both ((p.wager == wager setup p.bet) && are) win k.played in
     let paid = is_so p.wager (wager setup p.bet) (both (p.wager == wager setup p.bet) are t.0).0 in
     let after = is_so p.after 0 (both (nat_le 1 p.place && nat_le p.place count) (p.after == 0) k.placed).1 in
-    λ x. record (replayed setup p r) { wager = paid x; after = after x }
+    λ x. record (play_with_round setup p r) { wager = paid x; after = after x }
 
 -- whether the play is over, by the stage that it leaves
 ended_by_stage : (setup : Setup) (event : Event) (r : Round) (over : Bool) → is_over setup event r ≡ over → is_stage (if over then StageOpen.Ended else (round_stage setup r).phase) StageOpen.Ended ≡ over
@@ -186,7 +186,7 @@ picked_view setup b p door draw k =
     let r = with_choice door (round_of p) in
     let over = is_over setup event r in
     let is = effect_pick setup b.count b.balance b.totals p b.handpay b.kept 0 door draw k.sums.sixteen in
-    settled_view setup (phase_after setup event (Some p)) over b (replayed setup p r) (p.number, p.before) r (ended_by_stage setup event r over refl) (kept_record setup b.count p r.choices k.open_play)
+    settled_view setup (phase_after setup event (Some p)) over b (play_with_round setup p r) (p.number, p.before) r (ended_by_stage setup event r over refl) (kept_record setup b.count p r.choices k.open_play)
     ∙ sym (ap (λ (v : View). record v { count = b.count; kept = b.kept }) is)
 
 -- a take that is taken
@@ -197,26 +197,26 @@ taken_view setup b p draw k =
     let event = Event.Take in
     let r = round_of p in
     let is = effect_take setup b.count b.balance b.totals p b.handpay b.kept 0 draw k.sums.sixteen in
-    settled_view setup StageOpen.Ended true b (replayed setup p r) (p.number, p.before) r refl (kept_record setup b.count p r.choices k.open_play)
+    settled_view setup StageOpen.Ended true b (play_with_round setup p r) (p.number, p.before) r refl (kept_record setup b.count p r.choices k.open_play)
     ∙ sym (ap (λ (v : View). record v { count = b.count; kept = b.kept }) is)
 
 -- a play that is taken, by the stage in which it begins
 pub begun_view : (setup : Setup) (b : Books) (bet index : ℕ) (words : List ℕ) → IsKept setup b None → wager setup bet ≤ b.balance
-    → (let p = begun setup b bet index words in let phase = phase_of setup (Some p) in let play = Some (replayed setup p (round_of p)) in
+    → (let p = begun setup b bet index words in let phase = phase_of setup (Some p) in let play = Some (play_with_round setup p (round_of p)) in
     view_of (settled setup phase play (with_wager p.wager b)) (left_at phase play) ≡ acted setup (view_of b None) (Event.Play Game.Reels bet) (Some (index, words)) Reply.Taken)
 begun_view setup b bet index words k covered =
     let event = Event.Play Game.Reels bet in
     let p = begun setup b bet index words in
     let r = round_of p in
     let is = effect_play setup b.count b.balance b.totals b.handpay b.kept 0 bet index words k.sums.sixteen covered in
-    settled_view setup (phase_of setup (Some p)) (is_over setup event r) (with_wager p.wager b) (replayed setup p r) (p.number, p.before) r refl refl
+    settled_view setup (phase_of setup (Some p)) (is_over setup event r) (with_wager p.wager b) (play_with_round setup p r) (p.number, p.before) r refl refl
     ∙ sym (ap (λ (v : View). record v { count = b.count; kept = b.kept }) is)
 
 -- ================ a choice, by what the play machine answers
 
 -- what is known of the play machine and of the books after a choice was tried
 pub record IsTried (setup : Setup) (event : Event) (b after : Books) (play mid end : Option PlayRecord) (at : StageOpen) (r : Result StageOpen Refusal) : Type 0 where
-  pub answer : r ≡ judged (refusal play at event) (phase_after setup event play)
+  pub answer : r ≡ judgement (refusal play at event) (phase_after setup event play)
   pub moved : OnOk r (mid ≡ play_after setup event play)
   pub books : IfOk r (λ phase. after ≡ settled setup phase mid b)
   pub left : IfOk r (λ phase. end ≡ left_at phase mid)
@@ -229,7 +229,7 @@ Takes setup event = (b : Books) (p : PlayRecord) (draw : Option (ℕ × List ℕ
     view_of (settled setup phase play b) (left_at phase play) ≡ acted setup (view_of b (Some p)) event draw Reply.Taken)
 
 tried_open : (setup : Setup) (event : Event) → Takes setup event → (b after : Books) (play mid left : Option PlayRecord) (phase : StageOpen) (why : Option Refusal) (draw : Option (ℕ × List ℕ))
-    → (play ≡ None → why ≡ Some Refusal.NoPlay) → Ok phase ≡ judged why (phase_after setup event play) → mid ≡ play_after setup event play → after ≡ settled setup phase mid b → left ≡ left_at phase mid → IsKept setup b play
+    → (play ≡ None → why ≡ Some Refusal.NoPlay) → Ok phase ≡ judgement why (phase_after setup event play) → mid ≡ play_after setup event play → after ≡ settled setup phase mid b → left ≡ left_at phase mid → IsKept setup b play
     → view_of after left ≡ acted setup (view_of b play) event draw Reply.Taken
 tried_open setup event takes b after None mid left phase why draw none answer moved books is k = absurd (let w = none refl in cc (answer, w))
 tried_open setup event takes b after (Some p) mid left phase (Some why) draw none answer moved books is k = absurd (cc answer)
@@ -292,19 +292,19 @@ pub copied_some : {T : Type 0} (r : Option (Bor T)) → is_some r ≡ is_some (o
 copied_some None = refl
 copied_some (Some x) = refl
 
-choice_answer : (asked : Bool) (phase : StageOpen) → replied (judged (unless asked Refusal.BadChoice) phase) ≡ reply_by (unless asked Refusal.BadChoice ∷ [])
+choice_answer : (asked : Bool) (phase : StageOpen) → replied (judgement (unless asked Refusal.BadChoice) phase) ≡ reply_by (unless asked Refusal.BadChoice ∷ [])
 choice_answer true phase = refl
 choice_answer false phase = refl
 
 -- a pick is answered by the machine as by the rule, where nothing locks it up
 pub pick_answer : (setup : Setup) (b : Books) (play : Option PlayRecord) (at phase : StageOpen) (door : ℕ) → is_some b.handpay ≡ false → at ≡ phase_of setup play
-    → replied (judged (refusal play at (Event.Pick door)) phase) ≡ rule setup (view_of b play) (Event.Pick door)
+    → replied (judgement (refusal play at (Event.Pick door)) phase) ≡ rule setup (view_of b play) (Event.Pick door)
 pick_answer setup b play at phase door unlocked is =
-    ap (λ (s : StageOpen). replied (judged (refusal play s (Event.Pick door)) phase)) is
+    ap (λ (s : StageOpen). replied (judgement (refusal play s (Event.Pick door)) phase)) is
     ∙ by_play play
     ∙ sym (ap (λ (locked : Bool). reply_by (locked_up (if locked then Some Condition.Handpay else None) ∷ unless (is_some play) Refusal.NoPlay ∷ unless (is_at setup StageOpen.Pick play && (nat_le 1 door && nat_le door 5)) Refusal.BadChoice ∷ [])) unlocked)
   where
-    by_play : (x : Option PlayRecord) → replied (judged (refusal x (phase_of setup x) (Event.Pick door)) phase)
+    by_play : (x : Option PlayRecord) → replied (judgement (refusal x (phase_of setup x) (Event.Pick door)) phase)
         ≡ reply_by (None ∷ unless (is_some x) Refusal.NoPlay ∷ unless (is_at setup StageOpen.Pick x && (nat_le 1 door && nat_le door 5)) Refusal.BadChoice ∷ [])
     by_play None = refl
     by_play (Some p) = choice_answer (is_at setup StageOpen.Pick (Some p) && (nat_le 1 door && nat_le door 5)) phase
@@ -323,11 +323,11 @@ err_both (Err e) f a b = f a b
 
 pub begun_views : (setup : Setup) (b after : Books) (before left : Option PlayRecord) (bet : ℕ) (drawn : ℕ × List ℕ) (draw : Option (ℕ × List ℕ)) (p : PlayRecord) (reply : Reply)
     → IsKept setup b before → rule setup (view_of b before) (Event.Play Game.Reels bet) ≡ Reply.Taken → draw ≡ Some drawn → p ≡ begun setup b bet drawn.0 drawn.1 → reply ≡ Reply.Taken
-    → after ≡ settled setup (phase_of setup (Some p)) (Some (replayed setup p (round_of p))) (with_wager p.wager b) → left ≡ left_at (phase_of setup (Some p)) (Some (replayed setup p (round_of p)))
+    → after ≡ settled setup (phase_of setup (Some p)) (Some (play_with_round setup p (round_of p))) (with_wager p.wager b) → left ≡ left_at (phase_of setup (Some p)) (Some (play_with_round setup p (round_of p)))
     → view_of after left ≡ acted setup (view_of b before) (Event.Play Game.Reels bet) draw reply
 begun_views setup b after before left bet d draw p reply k taken some is replied_so books moved =
     let t = play_taken setup b before bet taken in
     let now : IsKept setup b None = subst (λ (x : Option PlayRecord). IsKept setup b x) t.0 k in
-    let whole : PlayRecord → View = λ q. let s = phase_of setup (Some q) in let play = Some (replayed setup q (round_of q)) in view_of (settled setup s play (with_wager q.wager b)) (left_at s play) in
+    let whole : PlayRecord → View = λ q. let s = phase_of setup (Some q) in let play = Some (play_with_round setup q (round_of q)) in view_of (settled setup s play (with_wager q.wager b)) (left_at s play) in
     (λ x. view_of (books x) (moved x)) ∙ ap whole is ∙ begun_view setup b bet d.0 d.1 now t.1
     ∙ (λ x. acted setup (view_of b (sym t.0 x)) (Event.Play Game.Reels bet) (sym some x) (sym replied_so x))

@@ -5,7 +5,7 @@ use Rattle.gd_base.specs.Judging.Machine.{Machine, Blocks}
 use Rattle.gd_base.specs.Payloads.LoadedView.{opens}
 use Rattle.gd_base.specs.Payloads.Spelled.{Spelled, Shows, Foreign, Unreadable}
 use Rattle.gd_script.specs.declared.item.Item.{Item}
-use Rattle.gd_store.specs.declared.copy.CopyState.{CopyState}
+use Rattle.gd_store.specs.declared.copy.states.CopyState.{CopyState}
 use Rattle.gd_top.specs.declared.status.Status.{Status}
 use Rattle.gd_top.specs.Items.{lines_told}
 use Rattle.gd_top.specs.Openings.{Nothing, Done, power_on}

@@ -4,9 +4,9 @@ use Rattle.gd_base.specs.declared.device.Device.{Device}
 use Rattle.gd_base.specs.declared.refusal.Reply.{Reply}
 use Rattle.gd_base.specs.Texts.Names.{device_name, reply_text}
 use Rattle.gd_script.specs.declared.item.Side.{Side}
-use Rattle.gd_store.specs.declared.found.Found.{Found}
-use Rattle.gd_store.specs.declared.copy.CopyState.{CopyState}
-use Rattle.gd_store.specs.declared.copy.Why.{Why}
+use Rattle.gd_store.specs.declared.copy.states.Found.{Found}
+use Rattle.gd_store.specs.declared.copy.states.CopyState.{CopyState}
+use Rattle.gd_store.specs.declared.copy.states.Why.{Why}
 use Rattle.gd_store.specs.Repair.{Repair, NoRepair, RepairA, RepairB}
 
 abbrev pub copy_text : CopyState → List ℕ

@@ -6,7 +6,7 @@ use Rattle.gd_base.specs.Judging.Machine.{Machine}
 use Rattle.gd_cabinet.specs.Shown.{IsInBoth}
 use Rattle.gd_disk.specs.Disk.{DiskState}
 use Rattle.gd_disk.specs.declared.lengths.TheConstants.{DISK_LEN}
-use Rattle.gd_store.specs.declared.found.Found.{Found}
+use Rattle.gd_store.specs.declared.copy.states.Found.{Found}
 use Rattle.gd_top.specs.Lines.{power_line}
 use Rattle.gd_top.specs.State.{Phase, On, Off, Locked}
 use Rattle.gd_top.specs.declared.step.Step.{Step}

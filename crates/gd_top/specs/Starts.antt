@@ -5,7 +5,7 @@ use Rattle.gd_base.specs.Payloads.Spelled.{Shows}
 use Rattle.gd_cabinet.specs.Shown.{shows, spelled_boot}
 use Rattle.gd_disk.specs.Disk.{DiskState}
 use Rattle.gd_store.specs.Copy.{boots, found_in}
-use Rattle.gd_store.specs.declared.layout.TheConstants.{LAYOUT}
+use Rattle.gd_store.specs.declared.copy.layout.TheConstants.{LAYOUT}
 use Rattle.gd_top.specs.State.{Start}
 
 -- what a power-on finds in an image: the two copies, and what is booted with what its payload spells

@@ -3,7 +3,7 @@
 ghost use Rattle.std.specs.Prelude.{◌≡◌, true, [], IfOk, IfErr, List, ℕ};
 ghost use Rattle.gd_base.specs.Payloads.Spelled.{Shows};
 ghost use Rattle.gd_disk.specs.Disk.{Rose};
-ghost use Rattle.gd_store.specs.Words.{room_payload};
+ghost use Rattle.gd_store.specs.Room.{room_payload};
 ghost use Rattle.gd_top.specs.Running.{IsClosed};
 
 use gd_base::{Core, Draws};

@@ -12,7 +12,7 @@ ghost use Rattle.gd_base.specs.Histories.Rounds.{round_of};
 ghost use Rattle.gd_base.specs.Judging.Rule.{rule};
 ghost use Rattle.gd_base.specs.Judging.SoFar.{is_drawn_so_far, rule_so_far};
 ghost use Rattle.gd_base.specs.Games.Stage.{is_bet};
-ghost use Rattle.gd_play.specs.Moving.{phase_of, replayed};
+ghost use Rattle.gd_play.specs.Moving.{phase_of, play_with_round};
 ghost use Rattle.gd_play.specs.Words.{machine_phase, machine_play, machine_table};
 ghost use Rattle.gd_top.specs.Books.{AreFit, HasRoom, acted, begun, is_fresh, left_at, replied, settled, view_of, with_bill, with_wager};
 
@@ -71,8 +71,8 @@ fn begin(setup: &Setup, books: &mut Books, plays: &mut PlayMachine<ReelsTable>, 
     requires none { machine_play plays.old ≡ None }
     requires table { (machine_table plays.old).setup ≡ setup.now }
     requires fresh { IsTrue (is_fresh play.now) }
-    ensures books { books.new ≡ settled setup.now (phase_of setup.now (Some play.now)) (Some (replayed setup.now play.now (round_of play.now))) (with_wager play.now.wager books.old) }
-    ensures play { machine_play plays.new ≡ left_at (phase_of setup.now (Some play.now)) (Some (replayed setup.now play.now (round_of play.now))) }
+    ensures books { books.new ≡ settled setup.now (phase_of setup.now (Some play.now)) (Some (play_with_round setup.now play.now (round_of play.now))) (with_wager play.now.wager books.old) }
+    ensures play { machine_play plays.new ≡ left_at (phase_of setup.now (Some play.now)) (Some (play_with_round setup.now play.now (round_of play.now))) }
     ensures phase { machine_phase plays.new ≡ phase_of setup.now (Some play.now) }
     ensures table { machine_table plays.new ≡ machine_table plays.old }
 {

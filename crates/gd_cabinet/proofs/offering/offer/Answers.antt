@@ -1,6 +1,6 @@
 use Rattle.std.proofs.Common.{arith, sym, refl}
 use Rattle.gd_base.proofs.AnswerLemmas.Answer.{new_event}
-use Rattle.gd_store.specs.Words.{store_disk, store_payload, store_sequence}
+use Rattle.gd_store.specs.Store.{store_disk, store_payload, store_sequence}
 use Rattle.gd_cabinet.proofs.OneEvent.{stepped_view, kept_moments, no_moments, no_cuts, no_run, failed_run}
 use Rattle.gd_cabinet.proofs.offering.offer.Goals as goal
 

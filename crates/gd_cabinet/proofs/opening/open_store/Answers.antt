@@ -1,4 +1,4 @@
-use Rattle.gd_store.specs.Words.{store_disk, store_payload, store_sequence}
+use Rattle.gd_store.specs.Store.{store_disk, store_payload, store_sequence}
 use Rattle.gd_cabinet.specs.Words.{cabinet_core, cabinet_disk}
 use Rattle.gd_cabinet.proofs.Cutting.{start_failed, repair_failed, all_made}
 use Rattle.gd_cabinet.proofs.Moments.{repair_moments, opening_moments}

@@ -1,6 +1,6 @@
 use Rattle.std.proofs.Common.{rules, ◌≡◌, ◌∙◌, ap, ◌+◌, ◌*◌, ◌-◌, ℕ, List, length, take, drop}
 use Rattle.gd_store.specs.Copy.{stored_payload}
-use Rattle.gd_store.specs.declared.layout.TheConstants.{LAYOUT}
+use Rattle.gd_store.specs.declared.copy.layout.TheConstants.{LAYOUT}
 use Rattle.gd_store.proofs.Pages.{slice_payload}
 use Rattle.gd_disk.specs.declared.lengths.TheConstants.{DIGEST_LEN, FRAME_LEN}
 use Rattle.gd_store.proofs.booting.take_payload.Goals as goal

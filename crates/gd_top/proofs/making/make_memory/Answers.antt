@@ -1,7 +1,7 @@
 use Rattle.std.proofs.Common.{◌∙◌, subst, List}
 use Rattle.gd_disk.specs.declared.disk.ArmedCut.{ArmedCut}
 use Rattle.gd_disk.specs.Runs.{CutsLeft}
-use Rattle.gd_store.specs.Words.{room_payload}
+use Rattle.gd_store.specs.Room.{room_payload}
 use Rattle.gd_top.proofs.Images.{settled, settled_after}
 use Rattle.gd_top.proofs.MadeMemory.{made_both}
 use Rattle.gd_top.proofs.making.make_memory.Goals as goal

@@ -1,4 +1,4 @@
-use Rattle.gd_store.specs.Words.{room_payload}
+use Rattle.gd_store.specs.Room.{room_payload}
 use Rattle.gd_cabinet.specs.Opened.{disk_in}
 use Rattle.gd_cabinet.proofs.Moments.{reads_alone, reads_then}
 use Rattle.gd_cabinet.proofs.Showing.{told_view, told_differs}

@@ -1,7 +1,8 @@
-use Rattle.gd_store.specs.declared.layout.TheConstants.{LAYOUT}
-use Rattle.gd_store.proofs.Openings.{kept_boot, reads_keep_boot, still_synced, read_failed, repair_failed, by_found, few_syncs}
+use Rattle.gd_store.specs.declared.copy.layout.TheConstants.{LAYOUT}
+use Rattle.gd_store.proofs.Openings.{kept_boot, reads_keep_boot, still_synced, told_all, by_found, few_syncs}
 use Rattle.gd_disk.proofs.WholeRuns.{run_on, run_fails, after_none}
 use Rattle.gd_disk.specs.CutRuns.{RunOf}
+use Rattle.gd_store.specs.Opening.{repairs_of}
 use Rattle.gd_store.specs.Repair.{repaired, syncs_of_repair}
 use Rattle.std.proofs.Common.{ℕ, Err, ◌+◌, ◌≤◌, arith, refl}
 use Rattle.gd_store.proofs.store.Store.open.Goals as goal
@@ -17,13 +18,6 @@ returns-in-Err-clause-any_moment g c =
     let mid = g.D.Disk.state c.boot.new.disk in
     kept_boot LAYOUT (g.D.Disk.state c.args.disk) mid (g.D.Disk.state c.repair.new.disk) c.boot.ensures.any_moment
     c.repair.ensures.any_moment
-
-pub returns-in-Off-clause-cut : goal.returns-in-Off-clause-cut
-returns-in-Off-clause-cut g c = read_failed LAYOUT (g.D.Disk.state c.args.disk) (g.D.Disk.state c.boot.new.disk) c.in-Off.ensures.armed c.in-Off.ensures.fault
-
-pub returns-in-Err-clause-cut : goal.returns-in-Err-clause-cut
-returns-in-Err-clause-cut g c = repair_failed LAYOUT c.in-Ready.found c.in-Ready.sequence c.boot.new.room.payload.items (g.D.Disk.state c.args.disk) (g.D.Disk.state c.boot.new.disk) (g.D.Disk.state c.repair.new.disk)
-    c.in-Ready.ensures.what c.in-Ready.ensures.armed c.in-Ready.ensures.answer.no_fault (c.in-Err.ensures.cuts.cause c.in-Ready.ensures.answer.stays_on)
 
 pub repair-requires-clause-synced : goal.repair-requires-clause-synced
 repair-requires-clause-synced g c =
@@ -53,3 +47,7 @@ returns-in-Err-clause-answer_run g c =
     let k = syncs_of_repair (repaired c.in-Ready.found) in
     let few : k ≤ 3 = few_syncs (repaired c.in-Ready.found) in
     run_fails (0 + k) 3 c.in-Err.field-0 (Err tt) old new refl (omega (arith, few)) (run_on 0 k _ old mid new c.in-Ready.ensures.answer.was_on c.in-Ready.ensures.answer.stays_on c.in-Ready.ensures.run.whole c.in-Err.ensures.run)
+
+pub returns-in-Off-clause-run : goal.returns-in-Off-clause-run
+returns-in-Off-clause-run g c = told_all (g.D.Disk.state c.args.disk).seen _ (λ image.
+    run_fails 0 (repairs_of LAYOUT image) tt (Err tt) (g.D.Disk.state c.args.disk) (g.D.Disk.state c.boot.new.disk) refl (omega arith) c.in-Off.ensures.run)

@@ -3,7 +3,7 @@ use Rattle.gd_base.specs.declared.condition.Condition.{Condition}
 use Rattle.gd_base.specs.declared.event.Event.{Event}
 use Rattle.gd_base.specs.declared.refusal.Refusal.{Refusal}
 use Rattle.gd_base.specs.declared.setup.Setup.{Setup}
-use Rattle.gd_play.specs.Judging.{refusal, judged}
+use Rattle.gd_play.specs.Judging.{refusal, judgement}
 use Rattle.gd_play.specs.Moving.{phase_after, play_after}
 use Rattle.gd_play.specs.Words.{machine_phase, machine_play, machine_table}
 use Rattle.gd_top.specs.Books.{acted, view_of}
@@ -48,7 +48,7 @@ returns-clause-view c =
     let after = c.reply_to.new.books in
     let left = machine_play c.reply_to.new.plays in
     let tried : IsTried setup event b after play mid left at r = record {
-      answer = subst (λ (s : Setup). r ≡ judged (refusal play at event) (phase_after s event play)) c.requires.fit.table c.take-moved.ensures.answer;
+      answer = subst (λ (s : Setup). r ≡ judgement (refusal play at event) (phase_after s event play)) c.requires.fit.table c.take-moved.ensures.answer;
       moved = subst (λ (s : Setup). OnOk r (mid ≡ play_after s event play)) c.requires.fit.table c.take-moved.ensures.play;
       books = c.reply_to.ensures.books;
       left = c.reply_to.ensures.play;

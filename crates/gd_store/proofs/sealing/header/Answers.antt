@@ -1,7 +1,0 @@
-use Rattle.std.proofs.Common.{rules}
-use Rattle.gd_store.specs.Copy.{header_start}
-use Rattle.gd_store.proofs.sealing.header.Goals as goal
-
-pub returns : goal.returns
-unfolding header_start
-returns c = search rules

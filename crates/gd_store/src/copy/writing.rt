@@ -1,0 +1,138 @@
+//! Writes of one copy and of both to a disk, each kept by a sync of its own.
+
+ghost use Rattle.std.specs.Prelude.{◌≡◌, ◌≤◌, ◌+◌, ◌<◌, ◌^◌, ◌∷◌, length, OnOk, OnErr, true, if◌then◌else◌, slice_index, ◌⊎◌, ◌*◌, IsErr, false, Some};
+ghost use Rattle.gd_disk.specs.Disk.{IfTold, seen_with_bytes, Torn, IsSynced, Answers, Unchanged, next_count};
+ghost use Rattle.gd_disk.specs.CutRuns.{RunOf};
+ghost use Rattle.gd_disk.specs.Runs.{LeavesOnly};
+ghost use Rattle.gd_store.specs.Writing.{seen_shut, IsShutting, IsShut, IsOverOpen, IsWriting, From, IsCommitting};
+ghost use Rattle.gd_store.specs.Copy.{HoldsBoth, LiesWithin, boots, copy_len};
+
+use super::sealing::seal_body;
+use crate::Layout;
+use gd_disk::{Disk, Off, PAGE_LEN};
+
+// Writes, and keeps it by a sync.
+fn write_synced<D: Disk>(disk: &mut D, at: u64, bytes: &[u8]) -> Result<(), Off>
+    requires { at + length bytes.now ≤ (D.state disk.old).size }
+    ensures seen { OnOk result ((D.state disk.new).seen ≡ seen_with_bytes at bytes.now (D.state disk.old).seen) }
+    ensures synced { OnOk result (IsSynced (D.state disk.new)) }
+    ensures any_moment { LeavesOnly (D.state disk.old) (D.state disk.new) (From (D.state disk.old) (Torn at (length bytes.now))) }
+    ensures answer { Answers result (D.state disk.old) (D.state disk.new) }
+    ensures fewer { OnErr result ((D.state disk.new).syncs < (D.state disk.old).syncs + 1) }
+    ensures run { RunOf 1 result (D.state disk.old) (D.state disk.new) }
+    ensures reads { (D.state disk.new).reads ≡ (D.state disk.old).reads }
+{
+    disk.write(at, bytes)?;
+    disk.sync()
+}
+
+pub(crate) const OPEN: u8 = 0xA5;
+
+const SHUT: u8 = 0;
+
+// Shuts a gate that is open. The sync is made all the same.
+fn shut<D: Disk>(disk: &mut D, at: u64, gate: u8) -> Result<(), Off>
+    requires within { at + 1 ≤ (D.state disk.old).size }
+    requires synced { IsSynced (D.state disk.old) }
+    requires gate { IfTold (D.state disk.old).seen (λ image. slice_index image at ≡ gate) }
+    ensures seen { OnOk result ((D.state disk.new).seen ≡ seen_shut at gate (D.state disk.old).seen) }
+    ensures shut { OnOk result (IfTold (D.state disk.new).seen (IsShut at)) }
+    ensures synced { OnOk result (IsSynced (D.state disk.new)) }
+    ensures any_moment { LeavesOnly (D.state disk.old) (D.state disk.new) (From (D.state disk.old) (IsShutting at)) }
+    ensures answer { Answers result (D.state disk.old) (D.state disk.new) }
+    ensures fewer { OnErr result ((D.state disk.new).syncs < (D.state disk.old).syncs + 1) }
+    ensures run { RunOf 1 result (D.state disk.old) (D.state disk.new) }
+    ensures reads { (D.state disk.new).reads ≡ (D.state disk.old).reads }
+{
+    if gate == OPEN {
+        write_synced(disk, at, &[SHUT])
+    } else {
+        disk.sync()
+    }
+}
+
+// Writes over a gate that is open. No sync is made.
+pub(crate) fn shut_open<D: Disk>(disk: &mut D, at: u64, gate: u8) -> Result<(), Off>
+    requires within { at + 1 ≤ (D.state disk.old).size }
+    requires on { (D.state disk.old).is_on ≡ true }
+    requires gate { IfTold (D.state disk.old).seen (λ image. slice_index image at ≡ gate) }
+    ensures seen { OnOk result ((D.state disk.new).seen ≡ seen_shut at gate (D.state disk.old).seen) }
+    ensures shut { OnOk result (IfTold (D.state disk.new).seen (IsShut at)) }
+    ensures any_moment { LeavesOnly (D.state disk.old) (D.state disk.new) (From (D.state disk.old) (IsOverOpen at gate)) }
+    ensures answer { Answers result (D.state disk.old) (D.state disk.new) }
+    ensures syncs { (D.state disk.new).syncs ≡ (D.state disk.old).syncs }
+    ensures run { RunOf 0 result (D.state disk.old) (D.state disk.new) }
+    ensures reads { (D.state disk.new).reads ≡ (D.state disk.old).reads }
+{
+    if gate == OPEN {
+        return disk.write(at, &[SHUT]);
+    }
+    Ok(())
+}
+
+// Writes a copy over one that is shut: its body, and then its gate, each kept by a sync.
+pub(crate) fn write_shut<D: Disk>(disk: &mut D, at: u64, body: &[u8]) -> Result<(), Off>
+    requires within { at + 1 + length body.now ≤ (D.state disk.old).size }
+    requires bounded { (D.state disk.old).size < 2 ^ 64 }
+    requires synced { IsSynced (D.state disk.old) }
+    requires shut { IfTold (D.state disk.old).seen (IsShut at) }
+    ensures seen { OnOk result ((D.state disk.new).seen ≡ seen_with_bytes at (OPEN ∷ body.now) (D.state disk.old).seen) }
+    ensures synced { OnOk result (IsSynced (D.state disk.new)) }
+    ensures any_moment { LeavesOnly (D.state disk.old) (D.state disk.new) (From (D.state disk.old) (IsWriting at (OPEN ∷ body.now))) }
+    ensures answer { Answers result (D.state disk.old) (D.state disk.new) }
+    ensures fewer { OnErr result ((D.state disk.new).syncs < (D.state disk.old).syncs + 2) }
+    ensures run { RunOf 2 result (D.state disk.old) (D.state disk.new) }
+    ensures reads { (D.state disk.new).reads ≡ (D.state disk.old).reads }
+{
+    write_synced(disk, at + 1, body)?;
+    write_synced(disk, at, &[OPEN])
+}
+
+// Writes a copy over another: shuts its gate, writes its body, and opens the gate, each kept by a sync.
+pub(crate) fn write_copy<D: Disk>(disk: &mut D, at: u64, gate: u8, body: &[u8]) -> Result<(), Off>
+    requires within { at + 1 + length body.now ≤ (D.state disk.old).size }
+    requires bounded { (D.state disk.old).size < 2 ^ 64 }
+    requires synced { IsSynced (D.state disk.old) }
+    requires gate { IfTold (D.state disk.old).seen (λ image. slice_index image at ≡ gate) }
+    ensures seen { OnOk result ((D.state disk.new).seen ≡ seen_with_bytes at (OPEN ∷ body.now) (D.state disk.old).seen) }
+    ensures synced { OnOk result (IsSynced (D.state disk.new)) }
+    ensures any_moment { LeavesOnly (D.state disk.old) (D.state disk.new) (From (D.state disk.old) (IsWriting at (OPEN ∷ body.now))) }
+    ensures answer { Answers result (D.state disk.old) (D.state disk.new) }
+    ensures fewer { OnErr result ((D.state disk.new).syncs < (D.state disk.old).syncs + 3) }
+    ensures run { RunOf 3 result (D.state disk.old) (D.state disk.new) }
+    ensures reads { (D.state disk.new).reads ≡ (D.state disk.old).reads }
+{
+    shut(disk, at, gate)?;
+    write_shut(disk, at, body)
+}
+
+// Writes the next payload over both copies of the old one.
+pub(crate) fn write_both<D: Disk>(
+    disk: &mut D,
+    layout: Layout,
+    sequence: u64,
+    kept: &[u8],
+    payload: &[u8],
+    body: &mut [u8],
+) -> Result<(), Off>
+    requires within { LiesWithin layout (D.state disk.old).size }
+    requires kept { length kept.now ≡ PAGE_LEN * layout.pages }
+    requires length { length payload.now ≡ PAGE_LEN * layout.pages }
+    requires body { length body.old + 1 ≡ copy_len layout.pages }
+    requires sequence { sequence < 2 ^ 36 }
+    requires synced { IsSynced (D.state disk.old) }
+    requires holds { IfTold (D.state disk.old).seen (HoldsBoth layout sequence kept.now) }
+    ensures synced { OnOk result (IsSynced (D.state disk.new)) }
+    ensures holds { OnOk result (IfTold (D.state disk.new).seen (HoldsBoth layout (sequence + 1) payload.now)) }
+    ensures any_moment { LeavesOnly (D.state disk.old) (D.state disk.new)
+        (λ c. (boots layout c ≡ Some (sequence, kept.now)) ⊎ (boots layout c ≡ Some (sequence + 1, payload.now))) }
+    ensures order { LeavesOnly (D.state disk.old) (D.state disk.new) (IsCommitting layout (sequence, kept.now) (sequence + 1, payload.now)) }
+    ensures answer { Answers result (D.state disk.old) (D.state disk.new) }
+    ensures fewer { OnErr result ((D.state disk.new).syncs < (D.state disk.old).syncs + 6) }
+    ensures run { RunOf 6 result (D.state disk.old) (D.state disk.new) }
+    ensures reads { (D.state disk.new).reads ≡ (D.state disk.old).reads }
+{
+    seal_body(layout, sequence + 1, payload, body);
+    write_copy(disk, layout.a, OPEN, body)?;
+    write_copy(disk, layout.b, OPEN, body)
+}
