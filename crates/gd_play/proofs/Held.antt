@@ -13,10 +13,11 @@ use Rattle.gd_base.specs.Histories.Rounds.{choices_of}
 use Rattle.gd_base.specs.Payloads.ViewRules.{is_open_as, record_rules, is_play_record, is_played, is_in}
 use Rattle.gd_base.specs.Games.Stage.{stage, is_bet, is_stage, is_choice, could_turn, are_choices}
 use Rattle.gd_play.proofs.Fresh.{first_asked}
-use Rattle.gd_play.proofs.Phases.{one_phase, phase_itself, and_true, or_left, only_left}
-use Rattle.gd_play.proofs.Turns.{below_five}
+use Rattle.gd_base.proofs.StageLemmas.Stages.{one_stage, stage_itself, or_left, only_left}
+use Rattle.gd_base.specs.Judging.Product.{both_hold}
+use Rattle.gd_base.proofs.StageLemmas.Turns.{room_for_turn}
 use Rattle.gd_play.specs.Judging.{is_choosing, choice_in, asks_for}
-use Rattle.gd_play.specs.Moving.{phase_of}
+use Rattle.gd_play.specs.Moving.{open_stage_of}
 use Rattle.gd_play.specs.Rules.{is_open_play, is_in_order, is_left, are_kept}
 
 abbrev pub own_stage : Setup → PlayRecord → StageOpen
@@ -45,9 +46,9 @@ held setup has_game play p phase is kept =
 -- the machine's stage is that of the play's words and choices, as long as it isn't Ended
 pub stage_held : (setup : Setup) (p : PlayRecord) (phase : StageOpen) → is_left setup p phase ≡ true → is_stage phase StageOpen.Ended ≡ false
     → own_stage setup p ≡ phase
-stage_held setup p StageOpen.Pick left going = one_phase _ _ (only_left (is_in setup p StageOpen.Pick) (is_in setup p StageOpen.Gamble) left)
-stage_held setup p StageOpen.Hold left going = one_phase _ _ (only_left (is_in setup p StageOpen.Hold) (is_in setup p StageOpen.Gamble) left)
-stage_held setup p StageOpen.Gamble left going = one_phase _ _ (only_left (is_in setup p StageOpen.Gamble) (is_in setup p StageOpen.Gamble) left)
+stage_held setup p StageOpen.Pick left going = one_stage _ _ (only_left (is_in setup p StageOpen.Pick) (is_in setup p StageOpen.Gamble) left)
+stage_held setup p StageOpen.Hold left going = one_stage _ _ (only_left (is_in setup p StageOpen.Hold) (is_in setup p StageOpen.Gamble) left)
+stage_held setup p StageOpen.Gamble left going = one_stage _ _ (only_left (is_in setup p StageOpen.Gamble) (is_in setup p StageOpen.Gamble) left)
 stage_held setup p StageOpen.Ended left going = absurd (cc going)
 
 -- an ended play asks for nothing more
@@ -85,7 +86,7 @@ gamble_held setup has_game play p phase is gamble kept =
     let f = held setup has_game play p phase is kept in
     let same = stage_held setup p phase f.left (ap (λ (s : StageOpen). is_stage s StageOpen.Ended) gamble) ∙ gamble in
     let could = both (is_choice setup p.game p.words p.choice && nat_lt p.colours (2 ^ p.turns)) (could_turn setup p.game p.bet p.words (choices_of p) p.turns) f.choices in
-    record { turns = below_five setup p.game p.bet p.words (choices_of p) could.1 same; choices = f.choices; stage = same }
+    record { turns = room_for_turn setup p.game p.bet p.words (choices_of p) could.1 same; choices = f.choices; stage = same }
 
 -- the choices of a play that keeps the rules of an open play
 pub open_choices : (setup : Setup) (play : Option PlayRecord) (p : PlayRecord) → play ≡ Some p → is_open_as (is_open_play setup) play ≡ true
@@ -106,7 +107,7 @@ record_bet p rules = (all_told (record_rules p) rules).0
 
 -- the rules of an open play, taken apart
 pub kept_parts : (setup : Setup) (has_game : Game → Bool) (play : Option PlayRecord) → is_open_as (λ p. has_game p.game) play ≡ true
-    → is_open_as (is_open_play setup) play ≡ true → are_kept setup has_game play (phase_of setup play) ≡ true
+    → is_open_as (is_open_play setup) play ≡ true → are_kept setup has_game play (open_stage_of setup play) ≡ true
 kept_parts setup has_game None games rules = refl
 kept_parts setup has_game (Some p) games rules =
     let choices = are_choices setup p.game p.bet p.words (choices_of p) in
@@ -118,8 +119,8 @@ kept_parts setup has_game (Some p) games rules =
     let w = both ((p.wager == wager setup p.bet) && choices) win v.1 in
     let own = own_stage setup p in
     let bet = record_bet p v.0 in
-    and_true (is_in_order setup has_game p) (is_left setup p own)
-    (and_true (has_game p.game && is_bet p.game p.bet && choices) win
-    (and_true (has_game p.game && is_bet p.game p.bet) choices (and_true (has_game p.game) (is_bet p.game p.bet) games bet) (both (p.wager == wager setup p.bet) choices w.0).1)
+    both_hold (is_in_order setup has_game p) (is_left setup p own)
+    (both_hold (has_game p.game && is_bet p.game p.bet && choices) win
+    (both_hold (has_game p.game && is_bet p.game p.bet) choices (both_hold (has_game p.game) (is_bet p.game p.bet) games bet) (both (p.wager == wager setup p.bet) choices w.0).1)
     w.1)
-    (or_left (is_in setup p own) (is_stage own StageOpen.Ended && is_in setup p StageOpen.Gamble) (phase_itself own))
+    (or_left (is_in setup p own) (is_stage own StageOpen.Ended && is_in setup p StageOpen.Gamble) (stage_itself own))

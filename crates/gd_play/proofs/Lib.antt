@@ -1,5 +1,3 @@
 pub mod Fresh
 mod Held
-mod Phases
 mod ToyLemmas
-pub mod Turns

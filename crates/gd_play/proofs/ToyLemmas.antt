@@ -19,7 +19,7 @@ use Rattle.gd_base.specs.Histories.Rounds.{choices_of, no_choices}
 use Rattle.gd_base.specs.Judging.SoFar.{is_reels}
 use Rattle.gd_base.specs.Payloads.ViewRules.{is_in, is_play_record, is_played}
 use Rattle.gd_base.specs.Games.Stage.{base_win, gamble_stage, has_pick, lines_win, stage, stage_with, win_after, are_choices, is_stage}
-use Rattle.gd_play.proofs.Phases.{and_true}
+use Rattle.gd_base.specs.Judging.Product.{both_hold}
 use Rattle.gd_play.specs.Rules.{is_open_play}
 
 abbrev pub is_none : List ℕ → Bool
@@ -126,11 +126,11 @@ opens_at_pick setup p rules reels paid fresh no_win no_after shown =
     let choices : are_choices setup p.game p.bet p.words (choices_of p) ≡ true = ap (are_choices setup p.game p.bet p.words) fresh ∙ fresh_choices setup p.game p.bet p.words in
     let win : (p.win == (stage setup p.game p.bet p.words (choices_of p)).win) ≡ true = is_equal p.win _ (no_win ∙ sym (ap (λ (s : Stage). s.win) at)) in
     let going : not (is_in setup p StageOpen.Ended) ≡ true = ap (λ (s : Stage). not (is_stage s.phase StageOpen.Ended)) at in
-    let played = and_true ((p.wager == wager setup p.bet) && are_choices setup p.game p.bet p.words (choices_of p)) (p.win == (stage setup p.game p.bet p.words (choices_of p)).win)
-    (and_true (p.wager == wager setup p.bet) (are_choices setup p.game p.bet p.words (choices_of p)) (is_equal p.wager (wager setup p.bet) paid) choices) win
+    let played = both_hold ((p.wager == wager setup p.bet) && are_choices setup p.game p.bet p.words (choices_of p)) (p.win == (stage setup p.game p.bet p.words (choices_of p)).win)
+    (both_hold (p.wager == wager setup p.bet) (are_choices setup p.game p.bet p.words (choices_of p)) (is_equal p.wager (wager setup p.bet) paid) choices) win
     in
-    and_true (is_play_record p && is_played setup p && not (is_in setup p StageOpen.Ended)) (p.after == 0)
-    (and_true (is_play_record p && is_played setup p) (not (is_in setup p StageOpen.Ended)) (and_true (is_play_record p) (is_played setup p) rules played) going) (is_equal p.after 0 no_after)
+    both_hold (is_play_record p && is_played setup p && not (is_in setup p StageOpen.Ended)) (p.after == 0)
+    (both_hold (is_play_record p && is_played setup p) (not (is_in setup p StageOpen.Ended)) (both_hold (is_play_record p) (is_played setup p) rules played) going) (is_equal p.after 0 no_after)
   where
     fresh_choices : (setup : Setup) (g : Game) (bet : ℕ) (words : List ℕ) → are_choices setup g bet words no_choices ≡ true
     fresh_choices setup Game.Reels bet words = refl

@@ -14,7 +14,7 @@ use Rattle.gd_base.specs.Judging.Rule.{rule}
 use Rattle.gd_base.specs.Games.Stage.{is_stage}
 use Rattle.gd_base.specs.Histories.View.{View}
 use Rattle.gd_play.specs.Judging.{refusal, reply_of}
-use Rattle.gd_play.specs.Moving.{play_with_round, play_after, phase_after, phase_of}
+use Rattle.gd_play.specs.Moving.{play_with_round, play_after, stage_after, open_stage_of}
 
 -- the events that move an open play on
 abbrev pub is_move : Event → Bool
@@ -28,7 +28,7 @@ is_move _ = false
 abbrev pub JudgesAsRule : Type 0
 JudgesAsRule =
     (setup : Setup) (v : View) (event : Event) → IsTrue (is_move event) → lock v ≡ None
-    → rule setup v event ≡ reply_of (refusal v.play (phase_of setup v.play) event)
+    → rule setup v event ≡ reply_of (refusal v.play (open_stage_of setup v.play) event)
 
 -- the round of a play, where it goes on
 abbrev pub open_round_of : StageOpen → Option PlayRecord → Option Round
@@ -44,16 +44,16 @@ MovesAsHistory =
     (setup : Setup) (e : Entry) (place : ℕ) (play : Option PlayRecord)
     → IsTrue (is_move e.event) → IsTrue (is_taken e.reply)
     → (open_after setup e place (option_map round_of play)
-    ≡ open_round_of (phase_after setup e.event play) (play_after setup e.event play))
+    ≡ open_round_of (stage_after setup e.event play) (play_after setup e.event play))
     × (ended_after setup e place (option_map round_of play)
-    ≡ ended_round_of (phase_after setup e.event play) (play_after setup e.event play))
+    ≡ ended_round_of (stage_after setup e.event play) (play_after setup e.event play))
 
 -- A play that begins is the round that its Play opens in a history, and it is over exactly where that Play ends it.
 abbrev pub BeginsAsHistory : Type 0
 BeginsAsHistory =
     (setup : Setup) (p : PlayRecord) → choices_of p ≡ no_choices
     → (moved_round p.place (Some (p.index, p.words)) None (Event.Play p.game p.bet) ≡ Some (round_of p))
-    × (is_stage (phase_of setup (Some p)) StageOpen.Ended ≡ is_over setup (Event.Play p.game p.bet) (round_of p))
+    × (is_stage (open_stage_of setup (Some p)) StageOpen.Ended ≡ is_over setup (Event.Play p.game p.bet) (round_of p))
 
 -- Its record is the history's, where it has the wager of its bet.
 abbrev pub KeepsRecord : Type 0

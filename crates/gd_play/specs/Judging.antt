@@ -1,5 +1,6 @@
 -- How an event of the player is judged: by whether a play is open, and by the stage that is open in it.
 use Rattle.std.specs.Prelude.{ℕ, Bool, true, false, ◌&&◌, nat_le, nat_lt, Option, Some, None, Result, Ok, Err}
+use Rattle.gd_base.specs.declared.limits.TheConstants.{MOST_HOLD, MOST_PICK}
 use Rattle.gd_base.specs.declared.event.Event.{Event}
 use Rattle.gd_base.specs.declared.refusal.Refusal.{Refusal}
 use Rattle.gd_base.specs.declared.refusal.Reply.{Reply}
@@ -22,8 +23,8 @@ choice_in _ = 0
 
 -- whether a stage asks for an event
 abbrev pub asks_for : StageOpen → Event → Bool
-asks_for phase (Event.Pick door) = is_stage phase StageOpen.Pick && (nat_le 1 door && nat_le door 5)
-asks_for phase (Event.Hold mask) = is_stage phase StageOpen.Hold && nat_lt mask 32
+asks_for phase (Event.Pick door) = is_stage phase StageOpen.Pick && (nat_le 1 door && nat_le door MOST_PICK)
+asks_for phase (Event.Hold mask) = is_stage phase StageOpen.Hold && nat_le mask MOST_HOLD
 asks_for phase (Event.Gamble colour) = is_stage phase StageOpen.Gamble
 asks_for phase Event.Take = is_stage phase StageOpen.Gamble
 asks_for phase _ = false

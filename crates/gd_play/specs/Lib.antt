@@ -2,4 +2,4 @@ pub mod Histories
 pub mod Judging
 pub mod Moving
 pub mod Rules
-pub mod Words
+pub mod PlayMachine

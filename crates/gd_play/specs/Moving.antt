@@ -26,14 +26,14 @@ abbrev pub stage_left : Setup → Event → Option Round → StageOpen
 stage_left setup event None = StageOpen.Ended
 stage_left setup event (Some r) = if is_over setup event r then StageOpen.Ended else (round_stage setup r).phase
 
-abbrev pub phase_after : Setup → Event → Option PlayRecord → StageOpen
-phase_after setup event None = StageOpen.Ended
-phase_after setup event (Some p) = stage_left setup event (moved_round p.place None (Some (round_of p)) event)
+abbrev pub stage_after : Setup → Event → Option PlayRecord → StageOpen
+stage_after setup event None = StageOpen.Ended
+stage_after setup event (Some p) = stage_left setup event (moved_round p.place None (Some (round_of p)) event)
 
 -- the stage that is open in a play, by its words and choices
-abbrev pub phase_of : Setup → Option PlayRecord → StageOpen
-phase_of setup None = StageOpen.Ended
-phase_of setup (Some p) = (round_stage setup (round_of p)).phase
+abbrev pub open_stage_of : Setup → Option PlayRecord → StageOpen
+open_stage_of setup None = StageOpen.Ended
+open_stage_of setup (Some p) = (round_stage setup (round_of p)).phase
 
 -- a play as it is handed out: with the balance after the entry that ended it
 abbrev pub play_with_after : ℕ → PlayRecord → PlayRecord

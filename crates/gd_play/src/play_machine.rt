@@ -2,10 +2,10 @@
 
 ghost use Rattle.std.specs.Prelude.{◌≡◌, IsTrue, IsSome, OnOk, OnErr, IfOk, Some, None, option_map, option_copied};
 ghost use Rattle.gd_base.specs.Payloads.ViewRules.{is_open_as};
-ghost use Rattle.gd_play.specs.Moving.{phase_of};
+ghost use Rattle.gd_play.specs.Moving.{open_stage_of};
 ghost use Rattle.gd_play.specs.Rules.{are_kept, is_open_play};
 
-use crate::choosing::{choice_of, choices, with_colour};
+use crate::choosing::{choice_of, with_colour};
 use crate::paytable::Paytable;
 use gd_base::{Colour, Event, PlayRecord, Refusal, StageOpen};
 
@@ -25,17 +25,17 @@ impl<P: Paytable> PlayMachine<P> {
     ghost use Rattle.gd_base.specs.Histories.Rounds.{round_of, choices_of, no_choices};
     ghost use Rattle.gd_base.specs.Games.Stage.{is_bet, are_choices};
     ghost use Rattle.gd_play.specs.Judging.{is_choosing, refusal, judgement};
-    ghost use Rattle.gd_play.specs.Moving.{play_with_round, play_after, phase_after, play_with_after};
-    ghost use Rattle.gd_play.specs.Words.{machine_table, machine_play, machine_phase};
+    ghost use Rattle.gd_play.specs.Moving.{play_with_round, play_after, stage_after, play_with_after};
+    ghost use Rattle.gd_play.specs.PlayMachine.{play_machine_table, play_machine_play, play_machine_stage};
 
     /// A machine with this open play, or with none. The play keeps the rules of an open play in a payload, and its
     /// stage isn't Ended.
     pub fn from_parts(table: P, open_play: Option<PlayRecord>) -> Self
         requires games { IsTrue (is_open_as (λ p. P.has_game table p.game) open_play) }
         requires rules { IsTrue (is_open_as (is_open_play (P.setup table)) open_play) }
-        ensures table { machine_table result ≡ table }
-        ensures play { machine_play result ≡ open_play }
-        ensures phase { machine_phase result ≡ phase_of (P.setup table) open_play }
+        ensures table { play_machine_table result ≡ table }
+        ensures play { play_machine_play result ≡ open_play }
+        ensures phase { play_machine_stage result ≡ open_stage_of (P.setup table) open_play }
     {
         let phase = open_phase(&table, &open_play);
         PlayMachine {
@@ -47,17 +47,17 @@ impl<P: Paytable> PlayMachine<P> {
 
     /// Begins a play that has no choices yet. The answer is the stage that is open then.
     pub fn begin(&mut self, play: &PlayRecord) -> StageOpen
-        requires none { machine_play self.old ≡ None }
-        requires game { IsTrue (P.has_game (machine_table self.old) play.now.game) }
+        requires none { play_machine_play self.old ≡ None }
+        requires game { IsTrue (P.has_game (play_machine_table self.old) play.now.game) }
         requires bet { IsTrue (is_bet play.now.game play.now.bet) }
         requires choices { choices_of play.now ≡ no_choices }
         requires win { play.now.win ≡ 0 }
         requires after { play.now.after ≡ 0 }
-        ensures answer { result ≡ phase_of (P.setup (machine_table self.old)) (Some play.now) }
-        ensures play { machine_play self.new ≡
-            Some (play_with_round (P.setup (machine_table self.old)) play.now (round_of play.now)) }
-        ensures phase { machine_phase self.new ≡ result }
-        ensures table { machine_table self.new ≡ machine_table self.old }
+        ensures answer { result ≡ open_stage_of (P.setup (play_machine_table self.old)) (Some play.now) }
+        ensures play { play_machine_play self.new ≡
+            Some (play_with_round (P.setup (play_machine_table self.old)) play.now (round_of play.now)) }
+        ensures phase { play_machine_stage self.new ≡ result }
+        ensures table { play_machine_table self.new ≡ play_machine_table self.old }
     {
         self.go_on(*play)
     }
@@ -67,13 +67,13 @@ impl<P: Paytable> PlayMachine<P> {
     /// changes. The answer is the stage that is open then.
     pub fn choose(&mut self, event: &Event) -> Result<StageOpen, Refusal>
         requires { IsTrue (is_choosing event.now) }
-        ensures answer { result ≡ judgement (refusal (machine_play self.old) (machine_phase self.old) event.now)
-            (phase_after (P.setup (machine_table self.old)) event.now (machine_play self.old)) }
-        ensures play { OnOk result (machine_play self.new ≡
-            play_after (P.setup (machine_table self.old)) event.now (machine_play self.old)) }
-        ensures phase { IfOk result (λ phase. machine_phase self.new ≡ phase) }
+        ensures answer { result ≡ judgement (refusal (play_machine_play self.old) (play_machine_stage self.old) event.now)
+            (stage_after (P.setup (play_machine_table self.old)) event.now (play_machine_play self.old)) }
+        ensures play { OnOk result (play_machine_play self.new ≡
+            play_after (P.setup (play_machine_table self.old)) event.now (play_machine_play self.old)) }
+        ensures phase { IfOk result (λ phase. play_machine_stage self.new ≡ phase) }
         ensures stays { OnErr result (self.new ≡ self.old) }
-        ensures table { machine_table self.new ≡ machine_table self.old }
+        ensures table { play_machine_table self.new ≡ play_machine_table self.old }
     {
         let Some(play) = self.play else {
             return Err(Refusal::NoPlay);
@@ -91,13 +91,13 @@ impl<P: Paytable> PlayMachine<P> {
     /// isn't that of gamble; then nothing changes. The answer is the stage that is open then.
     pub fn gamble(&mut self, colour: Colour) -> Result<StageOpen, Refusal>
         ensures answer { result ≡ judgement
-            (refusal (machine_play self.old) (machine_phase self.old) (Event.Gamble colour))
-            (phase_after (P.setup (machine_table self.old)) (Event.Gamble colour) (machine_play self.old)) }
-        ensures play { OnOk result (machine_play self.new ≡
-            play_after (P.setup (machine_table self.old)) (Event.Gamble colour) (machine_play self.old)) }
-        ensures phase { IfOk result (λ phase. machine_phase self.new ≡ phase) }
+            (refusal (play_machine_play self.old) (play_machine_stage self.old) (Event.Gamble colour))
+            (stage_after (P.setup (play_machine_table self.old)) (Event.Gamble colour) (play_machine_play self.old)) }
+        ensures play { OnOk result (play_machine_play self.new ≡
+            play_after (P.setup (play_machine_table self.old)) (Event.Gamble colour) (play_machine_play self.old)) }
+        ensures phase { IfOk result (λ phase. play_machine_stage self.new ≡ phase) }
         ensures stays { OnErr result (self.new ≡ self.old) }
-        ensures table { machine_table self.new ≡ machine_table self.old }
+        ensures table { play_machine_table self.new ≡ play_machine_table self.old }
     {
         let Some(play) = self.play else {
             return Err(Refusal::NoPlay);
@@ -115,13 +115,13 @@ impl<P: Paytable> PlayMachine<P> {
     /// Ends the play with its win. It is refused with NoPlay where there is no play, else with BadChoice where the
     /// stage isn't that of gamble; then nothing changes. The answer is Ended.
     pub fn take(&mut self) -> Result<StageOpen, Refusal>
-        ensures answer { result ≡ judgement (refusal (machine_play self.old) (machine_phase self.old) Event.Take)
-            (phase_after (P.setup (machine_table self.old)) Event.Take (machine_play self.old)) }
-        ensures play { OnOk result (machine_play self.new ≡
-            play_after (P.setup (machine_table self.old)) Event.Take (machine_play self.old)) }
-        ensures phase { IfOk result (λ phase. machine_phase self.new ≡ phase) }
+        ensures answer { result ≡ judgement (refusal (play_machine_play self.old) (play_machine_stage self.old) Event.Take)
+            (stage_after (P.setup (play_machine_table self.old)) Event.Take (play_machine_play self.old)) }
+        ensures play { OnOk result (play_machine_play self.new ≡
+            play_after (P.setup (play_machine_table self.old)) Event.Take (play_machine_play self.old)) }
+        ensures phase { IfOk result (λ phase. play_machine_stage self.new ≡ phase) }
         ensures stays { OnErr result (self.new ≡ self.old) }
-        ensures table { machine_table self.new ≡ machine_table self.old }
+        ensures table { play_machine_table self.new ≡ play_machine_table self.old }
     {
         let Some(_) = self.play else {
             return Err(Refusal::NoPlay);
@@ -135,19 +135,19 @@ impl<P: Paytable> PlayMachine<P> {
 
     /// The play, with the win of its stage, until it is handed out.
     pub fn open(&self) -> Option<&PlayRecord>
-        ensures { option_copied result ≡ machine_play self.now }
+        ensures { option_copied result ≡ play_machine_play self.now }
     {
         self.play.as_ref()
     }
 
     /// Hands out the play that has ended, with the balance after the entry that ended it. Then there is none.
     pub fn finish(&mut self, after: u64) -> PlayRecord
-        requires play { IsSome (machine_play self.old) }
-        requires ended { machine_phase self.old ≡ StageOpen.Ended }
-        ensures record { option_map (play_with_after after) (machine_play self.old) ≡ Some result }
-        ensures none { machine_play self.new ≡ None }
-        ensures phase { machine_phase self.new ≡ StageOpen.Ended }
-        ensures table { machine_table self.new ≡ machine_table self.old }
+        requires play { IsSome (play_machine_play self.old) }
+        requires ended { play_machine_stage self.old ≡ StageOpen.Ended }
+        ensures record { option_map (play_with_after after) (play_machine_play self.old) ≡ Some result }
+        ensures none { play_machine_play self.new ≡ None }
+        ensures phase { play_machine_stage self.new ≡ StageOpen.Ended }
+        ensures table { play_machine_table self.new ≡ play_machine_table self.old }
     {
         let Some(play) = self.play else {
             unreachable!();
@@ -158,19 +158,19 @@ impl<P: Paytable> PlayMachine<P> {
 
     /// Puts a play in place, with the win of its stage. The answer is that stage.
     fn go_on(&mut self, play: PlayRecord) -> StageOpen
-        requires game { IsTrue (P.has_game (machine_table self.old) play.game) }
+        requires game { IsTrue (P.has_game (play_machine_table self.old) play.game) }
         requires bet { IsTrue (is_bet play.game play.bet) }
         requires choices { IsTrue
-            (are_choices (P.setup (machine_table self.old)) play.game play.bet play.words (choices_of play)) }
-        ensures answer { result ≡ phase_of (P.setup (machine_table self.old)) (Some play) }
-        ensures play { machine_play self.new ≡
-            Some (play_with_round (P.setup (machine_table self.old)) play (round_of play)) }
-        ensures phase { machine_phase self.new ≡ result }
-        ensures table { machine_table self.new ≡ machine_table self.old }
+            (are_choices (P.setup (play_machine_table self.old)) play.game play.bet play.words (choices_of play)) }
+        ensures answer { result ≡ open_stage_of (P.setup (play_machine_table self.old)) (Some play) }
+        ensures play { play_machine_play self.new ≡
+            Some (play_with_round (P.setup (play_machine_table self.old)) play (round_of play)) }
+        ensures phase { play_machine_stage self.new ≡ result }
+        ensures table { play_machine_table self.new ≡ play_machine_table self.old }
     {
         let stage = self
             .table
-            .stage(play.game, play.bet, &play.words, &choices(&play));
+            .stage(play.game, play.bet, &play.words, &play.choices());
         self.play = Some(PlayRecord {
             win: stage.win,
             ..play
@@ -184,11 +184,11 @@ impl<P: Paytable> PlayMachine<P> {
 fn open_phase<P: Paytable>(table: &P, play: &Option<PlayRecord>) -> StageOpen
     requires games { IsTrue (is_open_as (λ p. P.has_game table.now p.game) play.now) }
     requires rules { IsTrue (is_open_as (is_open_play (P.setup table.now)) play.now) }
-    ensures { result ≡ phase_of (P.setup table.now) play.now }
+    ensures { result ≡ open_stage_of (P.setup table.now) play.now }
 {
     match play {
         Some(play) => {
-            let stage = table.stage(play.game, play.bet, &play.words, &choices(play));
+            let stage = table.stage(play.game, play.bet, &play.words, &play.choices());
             stage.phase
         }
         None => StageOpen::Ended,

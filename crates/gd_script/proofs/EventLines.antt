@@ -4,10 +4,11 @@ use Rattle.gd_base.specs.declared.game.Colour.{Colour}
 use Rattle.gd_base.specs.declared.event.Event.{Event}
 use Rattle.gd_base.specs.Texts.Names.{game_name}
 use Rattle.gd_script.specs.declared.keyword.Keyword.{Keyword}
-use Rattle.gd_script.specs.declared.limits.TheConstants.{MOST_AMOUNT, MOST_BET, MOST_NUMBER, MOST_PICK}
+use Rattle.gd_base.specs.declared.limits.TheConstants.{MOST_AMOUNT, MOST_PICK}
+use Rattle.gd_script.specs.declared.limits.TheConstants.{MOST_BET, MOST_NUMBER}
 use Rattle.gd_script.specs.declared.tables.TheConstants.{DOORS, GAMES, TILTS}
 use Rattle.gd_script.specs.Grammar.{event_words, IsLineEvent, NamesNoOrder}
-use Rattle.gd_script.specs.Names.{door_name, tilt_name}
+use Rattle.gd_base.specs.Texts.Names.{door_name, tilt_name}
 use Rattle.gd_script.specs.Reading.{amount_of, bare_event, event_by, event_of, event_with, hold_of, keyword_name, keyword_of, value_named, number_in, number_of, word_pair, play_of, voucher_of}
 use Rattle.gd_script.proofs.HoldBits.{hold_read, hold_said}
 use Rattle.gd_script.proofs.NameTables.{door_found, game_found, keyword_says, named_says, tilt_found}

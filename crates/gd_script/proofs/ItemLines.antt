@@ -9,9 +9,10 @@ use Rattle.gd_base.specs.Texts.Names.{device_name}
 use Rattle.gd_disk.specs.declared.disk.CutUnit.{CutUnit}
 use Rattle.gd_script.specs.declared.item.Item.{Item}
 use Rattle.gd_script.specs.declared.item.OrderWord.{OrderWord}
-use Rattle.gd_script.specs.declared.item.Side.{Side}
+use Rattle.gd_disk.specs.declared.side.Side.{Side}
 use Rattle.gd_script.specs.declared.keyword.Keyword.{Keyword}
-use Rattle.gd_script.specs.declared.limits.TheConstants.{LAST_PLACE, MOST_CUT, MOST_MASK, MOST_NUMBER, MOST_TORN}
+use Rattle.gd_disk.specs.declared.limits.TheConstants.{MOST_TORN}
+use Rattle.gd_script.specs.declared.limits.TheConstants.{LAST_PLACE, MOST_CUT, MOST_MASK, MOST_NUMBER}
 use Rattle.gd_script.specs.declared.tables.TheConstants.{DEVICES, SHOWN, SIDES, UNITS}
 use Rattle.gd_script.specs.Grammar.{event_words, InGrammar, IsLineEvent, IsOrderNumber, item_words, NamesNoOrder, order_number, show_words}
 use Rattle.gd_script.specs.Names.{order_name, side_name, unit_name, what_name}

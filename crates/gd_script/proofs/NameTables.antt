@@ -9,11 +9,12 @@ use Rattle.gd_base.specs.declared.condition.Tilt.{Tilt}
 use Rattle.gd_base.specs.declared.step.What.{What}
 use Rattle.gd_base.specs.Texts.Names.{device_name, game_name}
 use Rattle.gd_disk.specs.declared.disk.CutUnit.{CutUnit}
-use Rattle.gd_script.specs.declared.item.Side.{Side}
+use Rattle.gd_disk.specs.declared.side.Side.{Side}
 use Rattle.gd_script.specs.declared.keyword.Keyword.{Keyword}
 use Rattle.gd_script.specs.declared.keyword.TheConstants.{KEYWORDS}
 use Rattle.gd_script.specs.declared.tables.TheConstants.{DEVICES, DOORS, GAMES, SHOWN, SIDES, TILTS, UNITS}
-use Rattle.gd_script.specs.Names.{door_name, side_name, tilt_name, unit_name, what_name}
+use Rattle.gd_base.specs.Texts.Names.{door_name, tilt_name}
+use Rattle.gd_script.specs.Names.{side_name, unit_name, what_name}
 use Rattle.gd_script.specs.Reading.{keyword_name, keyword_of, value_named}
 
 -- what is found has the name, and what all of the values have

@@ -1,6 +1,7 @@
 -- Lines of one, two and more fields, whatever they say.
 use Rattle.std.proofs.Common.{◌≡◌, ℕ, ◌≤◌, List, [], ◌∷◌, decimal, option_and_then, option_map, Option, None, Some, refl, subst, arith}
-use Rattle.gd_script.specs.declared.limits.TheConstants.{MOST_AMOUNT, MOST_NUMBER}
+use Rattle.gd_base.specs.declared.limits.TheConstants.{MOST_AMOUNT}
+use Rattle.gd_script.specs.declared.limits.TheConstants.{MOST_NUMBER}
 use Rattle.gd_script.specs.Reading.{amount_of, option_map_both, number_in, number_of, only_word}
 use Rattle.gd_script.proofs.Numbers.{decimal_of_number, number_in_decimal}
 

@@ -20,10 +20,11 @@ use Rattle.gd_base.specs.Texts.OfViews.{bits}
 use Rattle.gd_disk.specs.declared.disk.CutUnit.{CutUnit}
 use Rattle.gd_script.specs.declared.item.Item.{Item}
 use Rattle.gd_script.specs.declared.item.OrderWord.{OrderWord}
-use Rattle.gd_script.specs.declared.item.Side.{Side}
+use Rattle.gd_disk.specs.declared.side.Side.{Side}
 use Rattle.gd_script.specs.declared.limits.TheConstants.{MOST_NUMBER}
 use Rattle.gd_script.specs.Grammar.{event_words, InGrammar, IsLineEvent, IsOrderNumber, IsPrintable, item_words, order_number, show_words}
-use Rattle.gd_script.specs.Names.{door_name, order_name, side_name, tilt_name, unit_name, what_name}
+use Rattle.gd_base.specs.Texts.Names.{door_name, tilt_name}
+use Rattle.gd_script.specs.Names.{order_name, side_name, unit_name, what_name}
 use Rattle.gd_script.specs.Reading.{words}
 use Rattle.gd_script.proofs.NameTables.{Each}
 use Rattle.gd_script.proofs.Numbers.{both, decimal_digit_at, from_at_most}

@@ -7,8 +7,11 @@ use Rattle.gd_base.specs.declared.step.What.{What}
 use Rattle.gd_base.specs.Texts.Names.{device_name, game_name, colour_name}
 use Rattle.gd_base.specs.Texts.OfViews.{bits}
 use Rattle.gd_script.specs.declared.item.Item.{Item}
-use Rattle.gd_script.specs.declared.limits.TheConstants.{COMMENT_MARK, HELD_CARDS, LAST_PLACE, LAST_PRINTABLE, LEAST_CUT, LEAST_PICK, MOST_AMOUNT, MOST_BET, MOST_CUT, MOST_HOLD, MOST_MASK, MOST_NUMBER, MOST_PICK, MOST_TORN, SPACE}
-use Rattle.gd_script.specs.Names.{door_name, tilt_name, order_name, unit_name, side_name, what_name}
+use Rattle.gd_base.specs.declared.limits.TheConstants.{HELD_CARDS, MOST_AMOUNT, MOST_HOLD, MOST_PICK}
+use Rattle.gd_disk.specs.declared.limits.TheConstants.{MOST_TORN}
+use Rattle.gd_script.specs.declared.limits.TheConstants.{COMMENT_MARK, LAST_PLACE, LAST_PRINTABLE, LEAST_CUT, LEAST_PICK, MOST_BET, MOST_CUT, MOST_MASK, MOST_NUMBER, SPACE}
+use Rattle.gd_base.specs.Texts.Names.{door_name, tilt_name}
+use Rattle.gd_script.specs.Names.{order_name, unit_name, side_name, what_name}
 
 -- ================ the words of a line
 

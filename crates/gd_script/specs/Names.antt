@@ -1,25 +1,9 @@
--- The words of a script that name a value of an enum. Devices, games and colours have the names of gd_base.
+-- The words of a script that name a value of an enum. Devices, doors, tilts, games and colours have the names of gd_base.
 use Rattle.std.specs.Prelude.{ℕ, List, codes}
-use Rattle.gd_base.specs.declared.condition.Door.{Door}
-use Rattle.gd_base.specs.declared.condition.Tilt.{Tilt}
 use Rattle.gd_base.specs.declared.step.What.{What}
 use Rattle.gd_disk.specs.declared.disk.CutUnit.{CutUnit}
 use Rattle.gd_script.specs.declared.item.OrderWord.{OrderWord}
-use Rattle.gd_script.specs.declared.item.Side.{Side}
-
-abbrev pub door_name : Door → List ℕ
-door_name Door.Logic = codes "logic"
-door_name Door.Main = codes "main"
-door_name Door.Cashbox = codes "cashbox"
-door_name Door.Drop = codes "drop"
-
-abbrev pub tilt_name : Tilt → List ℕ
-tilt_name Tilt.BillJam = codes "bill-jam"
-tilt_name Tilt.CoinJam = codes "coin-jam"
-tilt_name Tilt.StackerFull = codes "stacker-full"
-tilt_name Tilt.PaperOut = codes "paper-out"
-tilt_name Tilt.PrintFail = codes "print-fail"
-tilt_name Tilt.HopperEmpty = codes "hopper-empty"
+use Rattle.gd_disk.specs.declared.side.Side.{Side}
 
 abbrev pub order_name : OrderWord → List ℕ
 order_name OrderWord.Printed = codes "printed"

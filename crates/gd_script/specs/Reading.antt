@@ -11,12 +11,15 @@ use Rattle.gd_disk.specs.declared.disk.CutUnit.{CutUnit}
 use Rattle.gd_script.specs.declared.item.Item.{Item}
 use Rattle.gd_script.specs.declared.item.LineFault.{LineFault}
 use Rattle.gd_script.specs.declared.item.OrderWord.{OrderWord}
-use Rattle.gd_script.specs.declared.item.Side.{Side}
+use Rattle.gd_disk.specs.declared.side.Side.{Side}
 use Rattle.gd_script.specs.declared.keyword.Keyword.{Keyword}
 use Rattle.gd_script.specs.declared.keyword.TheConstants.{KEYWORDS}
-use Rattle.gd_script.specs.declared.limits.TheConstants.{COMMENT_MARK, HELD_CARDS, LAST_PLACE, LAST_PRINTABLE, LEAST_CUT, LEAST_PICK, LINE_LEN, MOST_AMOUNT, MOST_BET, MOST_CUT, MOST_MASK, MOST_NUMBER, MOST_PICK, MOST_TORN, ONE, SPACE, ZERO}
+use Rattle.gd_base.specs.declared.limits.TheConstants.{HELD_CARDS, MOST_AMOUNT, MOST_PICK}
+use Rattle.gd_disk.specs.declared.limits.TheConstants.{MOST_TORN}
+use Rattle.gd_script.specs.declared.limits.TheConstants.{COMMENT_MARK, LAST_PLACE, LAST_PRINTABLE, LEAST_CUT, LEAST_PICK, LINE_LEN, MOST_BET, MOST_CUT, MOST_MASK, MOST_NUMBER, ONE, SPACE, ZERO}
 use Rattle.gd_script.specs.declared.tables.TheConstants.{DEVICES, DOORS, GAMES, SHOWN, SIDES, TILTS, UNITS}
-use Rattle.gd_script.specs.Names.{door_name, tilt_name, unit_name, side_name, what_name}
+use Rattle.gd_base.specs.Texts.Names.{door_name, tilt_name}
+use Rattle.gd_script.specs.Names.{unit_name, side_name, what_name}
 
 -- ================ words
 

@@ -2,17 +2,17 @@
 
 ghost use Rattle.std.specs.Prelude.{◌≡◌, option_map, option_and_then};
 ghost use Rattle.gd_base.specs.Texts.Names.{game_name};
-ghost use Rattle.gd_script.specs.Names.{door_name, tilt_name};
+ghost use Rattle.gd_base.specs.Texts.Names.{door_name, tilt_name};
 ghost use Rattle.gd_script.specs.Reading.{amount_of, bare_event, event_of, event_with, value_named, number_in, number_of};
 ghost use Rattle.gd_script.specs.Reading.{only_word, word_pair, play_of, voucher_of, words};
 
 use crate::fields::{read_amount, read_byte, read_hold, read_keyword, read_number};
 use crate::keyword::Keyword;
-use crate::limits::{LEAST_PICK, MOST_BET, MOST_NUMBER, MOST_PICK};
+use crate::limits::{LEAST_PICK, MOST_BET, MOST_NUMBER};
 use crate::named::find_named;
 use crate::tables::{DOORS, GAMES, TILTS};
 use crate::words::{only_word, split_first, word_pair};
-use gd_base::{Colour, Door, Event, Tilt};
+use gd_base::{Colour, Door, Event, MOST_PICK, Tilt};
 
 /// The event that a text says, as it stands alone and behind `as N `, or none. An order has its number there.
 #[tactic(auto, unfolding(crate::specs::Reading::event_of))]

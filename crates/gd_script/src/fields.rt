@@ -6,9 +6,10 @@ ghost use Rattle.std.specs.Str.Parse.{digits_value};
 ghost use Rattle.gd_script.specs.Reading.{amount_of, bit_of, hold_of, keyword_of, number_in, number_of, only_word, order_of, words};
 
 use crate::keyword::{KEYWORDS, Keyword};
-use crate::limits::{HELD_CARDS, MOST_AMOUNT, MOST_NUMBER, NUMBER_LEN, ONE, ZERO};
+use crate::limits::{MOST_NUMBER, NUMBER_LEN, ONE, ZERO};
 use crate::named::find_named;
 use crate::words::only_word;
+use gd_base::{HELD_CARDS, MOST_AMOUNT};
 
 /// The keyword that a word is, or none.
 #[tactic(auto, unfolding(crate::specs::Reading::keyword_of))]

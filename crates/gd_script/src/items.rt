@@ -9,11 +9,12 @@ use crate::events::{bare_event, event_with, read_event};
 use crate::fields::{read_byte, read_number, read_order};
 use crate::item::{Item, OrderWord};
 use crate::keyword::Keyword;
-use crate::limits::{LAST_PLACE, LEAST_CUT, MOST_CUT, MOST_MASK, MOST_NUMBER, MOST_TORN};
+use crate::limits::{LAST_PLACE, LEAST_CUT, MOST_CUT, MOST_MASK, MOST_NUMBER};
 use crate::named::find_named;
 use crate::tables::{DEVICES, SHOWN, SIDES, UNITS};
 use crate::words::{only_word, split_first, word_pair};
 use gd_base::What;
+use gd_disk::MOST_TORN;
 
 /// The item of a line that is this one word, or none.
 #[tactic(auto, unfolding(crate::specs::Reading::bare_item))]

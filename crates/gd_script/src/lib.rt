@@ -17,10 +17,10 @@ mod tables;
 mod tests;
 mod words;
 
-pub use item::{Item, LineFault, OrderWord, Side};
+pub use gd_disk::Side;
+pub use item::{Item, LineFault, OrderWord};
 pub use limits::{
-    HELD_CARDS, LAST_PLACE, LEAST_CUT, LEAST_PICK, LINE_LEN, MOST_AMOUNT, MOST_BET, MOST_CUT,
-    MOST_HOLD, MOST_MASK, MOST_NUMBER, MOST_PICK, MOST_TORN,
+    LAST_PLACE, LEAST_CUT, LEAST_PICK, LINE_LEN, MOST_BET, MOST_CUT, MOST_MASK, MOST_NUMBER,
 };
 pub use printing::print_item;
 pub use reading::read_line;

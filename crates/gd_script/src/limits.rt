@@ -8,32 +8,17 @@ pub const LINE_LEN: usize = 120;
 /// The greatest number of a field: 2^64 - 1.
 pub const MOST_NUMBER: u64 = u64::MAX;
 
-/// The most cents of a bill, a coin or a voucher.
-pub const MOST_AMOUNT: u32 = 100_000_000;
-
 /// The greatest bet of a line, in credits. Which bets a game takes is the machine's to judge.
 pub const MOST_BET: u8 = 255;
 
 /// The least number of a door that can be picked.
 pub const LEAST_PICK: u8 = 1;
 
-/// The greatest number of a door that can be picked.
-pub const MOST_PICK: u8 = 5;
-
-/// The cards of a hand, of which each has a digit in `hold`.
-pub const HELD_CARDS: usize = 5;
-
-/// The mask of all cards.
-pub const MOST_HOLD: u8 = 31;
-
 /// The fewest calls or syncs after which an armed cut comes.
 pub const LEAST_CUT: u32 = 1;
 
 /// The most calls or syncs after which an armed cut comes.
 pub const MOST_CUT: u32 = 100_000;
-
-/// The last of the kinds of a loss, from 0. They are told at `arm` of a laboratory's disk.
-pub const MOST_TORN: u8 = 3;
 
 /// The last place in a copy, from 0.
 pub const LAST_PLACE: u64 = COPY_LEN as u64 - 1;
@@ -67,23 +52,13 @@ const _: () = prove!(LINE_LEN == 120);
 
 const _: () = prove!(MOST_NUMBER == 18_446_744_073_709_551_615);
 
-const _: () = prove!(MOST_AMOUNT == 100_000_000);
-
 const _: () = prove!(MOST_BET == 255);
 
 const _: () = prove!(LEAST_PICK == 1);
 
-const _: () = prove!(MOST_PICK == 5);
-
-const _: () = prove!(HELD_CARDS == 5);
-
-const _: () = prove!(MOST_HOLD == 31);
-
 const _: () = prove!(LEAST_CUT == 1);
 
 const _: () = prove!(MOST_CUT == 100_000);
-
-const _: () = prove!(MOST_TORN == 3);
 
 const _: () = prove!(LAST_PLACE == 17_456);
 

@@ -2,14 +2,15 @@
 
 ghost use Rattle.std.specs.Prelude.{◌≡◌};
 ghost use Rattle.gd_base.specs.Texts.Names.{device_name, game_name};
-ghost use Rattle.gd_script.specs.Names.{door_name, order_name, side_name, tilt_name, unit_name, what_name};
+ghost use Rattle.gd_base.specs.Texts.Names.{door_name, tilt_name};
+ghost use Rattle.gd_script.specs.Names.{order_name, side_name, unit_name, what_name};
 ghost use Rattle.gd_script.specs.Reading.{keyword_name};
 
-use crate::item::{OrderWord, Side};
+use crate::item::OrderWord;
 use crate::keyword::Keyword;
 use crate::named::Named;
 use gd_base::{Device, Door, Game, Tilt, What};
-use gd_disk::CutUnit;
+use gd_disk::{CutUnit, Side};
 
 impl Named for Device {
     ghost name_of = { device_name };
@@ -23,12 +24,7 @@ impl Named for Door {
     ghost name_of = { door_name };
 
     fn word(&self) -> &'static str {
-        match self {
-            Door::Logic => "logic",
-            Door::Main => "main",
-            Door::Cashbox => "cashbox",
-            Door::Drop => "drop",
-        }
+        self.name()
     }
 }
 
@@ -36,14 +32,7 @@ impl Named for Tilt {
     ghost name_of = { tilt_name };
 
     fn word(&self) -> &'static str {
-        match self {
-            Tilt::BillJam => "bill-jam",
-            Tilt::CoinJam => "coin-jam",
-            Tilt::StackerFull => "stacker-full",
-            Tilt::PaperOut => "paper-out",
-            Tilt::PrintFail => "print-fail",
-            Tilt::HopperEmpty => "hopper-empty",
-        }
+        self.name()
     }
 }
 

@@ -10,9 +10,9 @@ ghost use Rattle.gd_script.specs.Names.{order_name};
 ghost use Rattle.gd_script.specs.Reading.{read_of};
 
 use crate::item::{Item, OrderWord};
-use crate::limits::{HELD_CARDS, LINE_LEN, NUMBER_LEN, SPACE, WORD_LEN};
+use crate::limits::{LINE_LEN, NUMBER_LEN, SPACE, WORD_LEN};
 use crate::named::Named;
-use gd_base::{Colour, Event, TEXT_LEN, Text, What, push_number};
+use gd_base::{Colour, Event, HELD_CARDS, TEXT_LEN, Text, What, push_number};
 
 /// The most bytes of two words.
 const TWO_WORDS_LEN: usize = WORD_LEN + 1 + WORD_LEN;

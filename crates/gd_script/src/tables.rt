@@ -1,8 +1,7 @@
 //! The values that a field names, for each kind of name.
 
-use crate::item::Side;
 use gd_base::{Device, Door, Game, Tilt, What};
-use gd_disk::CutUnit;
+use gd_disk::{CutUnit, Side};
 
 /// The devices whose last number a line can repeat: all but the power.
 pub(crate) const DEVICES: [Device; 8] = [

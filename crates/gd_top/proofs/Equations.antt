@@ -16,7 +16,7 @@ use Rattle.gd_disk.specs.declared.disk.CutUnit.{CutUnit}
 use Rattle.gd_disk.specs.Waits.{waits_for}
 use Rattle.gd_script.specs.declared.item.Item.{Item}
 use Rattle.gd_script.specs.declared.item.OrderWord.{OrderWord}
-use Rattle.gd_script.specs.declared.item.Side.{Side}
+use Rattle.gd_disk.specs.declared.side.Side.{Side}
 use Rattle.gd_script.specs.Items.{order_event}
 use Rattle.gd_top.specs.Items.{item_told, event_told, next_numbered, order_of, again_told, with_power, in_trial, below_limit, off_told, on_told, alter_told, clear_told}
 use Rattle.gd_top.specs.Lines.{answer_line, step_line, full_line, power_line}

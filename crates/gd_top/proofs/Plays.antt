@@ -28,7 +28,7 @@ use Rattle.gd_base.proofs.SoFarLemmas.Rules.{IsCounted, IsKeptPlay, counted, cou
 use Rattle.gd_base.proofs.SoFarLemmas.Steps.{IsOfRound, effect_refused, effect_bill, effect_start, effect_play, effect_pick, effect_take, view_moved, still_open}
 use Rattle.gd_base.proofs.HistoryLemmas.Wins.{most_win}
 use Rattle.gd_play.specs.Judging.{refusal, judgement}
-use Rattle.gd_play.specs.Moving.{phase_of, play_with_round, play_after, phase_after}
+use Rattle.gd_play.specs.Moving.{open_stage_of, play_with_round, play_after, stage_after}
 use Rattle.gd_top.specs.declared.first_core.books.Books.{Books}
 use Rattle.gd_top.specs.declared.first_core.reels_table.ReelsTable.{ReelsTable}
 use Rattle.gd_top.specs.Books.{AreFit, HasRoom, acted, begun, is_fresh, left_at, replied, settled, view_of, with_bill, with_wager}
@@ -179,19 +179,19 @@ ended_by_stage setup event r false is = neither (is_take event) (is_stage (round
 
 -- a pick that is taken
 picked_view : (setup : Setup) (b : Books) (p : PlayRecord) (door : ℕ) (draw : Option (ℕ × List ℕ)) → IsKept setup b (Some p)
-    → (let event = Event.Pick door in let phase = phase_after setup event (Some p) in let play = play_after setup event (Some p) in
+    → (let event = Event.Pick door in let phase = stage_after setup event (Some p) in let play = play_after setup event (Some p) in
     view_of (settled setup phase play b) (left_at phase play) ≡ acted setup (view_of b (Some p)) event draw Reply.Taken)
 picked_view setup b p door draw k =
     let event = Event.Pick door in
     let r = with_choice door (round_of p) in
     let over = is_over setup event r in
     let is = effect_pick setup b.count b.balance b.totals p b.handpay b.kept 0 door draw k.sums.sixteen in
-    settled_view setup (phase_after setup event (Some p)) over b (play_with_round setup p r) (p.number, p.before) r (ended_by_stage setup event r over refl) (kept_record setup b.count p r.choices k.open_play)
+    settled_view setup (stage_after setup event (Some p)) over b (play_with_round setup p r) (p.number, p.before) r (ended_by_stage setup event r over refl) (kept_record setup b.count p r.choices k.open_play)
     ∙ sym (ap (λ (v : View). record v { count = b.count; kept = b.kept }) is)
 
 -- a take that is taken
 taken_view : (setup : Setup) (b : Books) (p : PlayRecord) (draw : Option (ℕ × List ℕ)) → IsKept setup b (Some p)
-    → (let event = Event.Take in let phase = phase_after setup event (Some p) in let play = play_after setup event (Some p) in
+    → (let event = Event.Take in let phase = stage_after setup event (Some p) in let play = play_after setup event (Some p) in
     view_of (settled setup phase play b) (left_at phase play) ≡ acted setup (view_of b (Some p)) event draw Reply.Taken)
 taken_view setup b p draw k =
     let event = Event.Take in
@@ -202,21 +202,21 @@ taken_view setup b p draw k =
 
 -- a play that is taken, by the stage in which it begins
 pub begun_view : (setup : Setup) (b : Books) (bet index : ℕ) (words : List ℕ) → IsKept setup b None → wager setup bet ≤ b.balance
-    → (let p = begun setup b bet index words in let phase = phase_of setup (Some p) in let play = Some (play_with_round setup p (round_of p)) in
+    → (let p = begun setup b bet index words in let phase = open_stage_of setup (Some p) in let play = Some (play_with_round setup p (round_of p)) in
     view_of (settled setup phase play (with_wager p.wager b)) (left_at phase play) ≡ acted setup (view_of b None) (Event.Play Game.Reels bet) (Some (index, words)) Reply.Taken)
 begun_view setup b bet index words k covered =
     let event = Event.Play Game.Reels bet in
     let p = begun setup b bet index words in
     let r = round_of p in
     let is = effect_play setup b.count b.balance b.totals b.handpay b.kept 0 bet index words k.sums.sixteen covered in
-    settled_view setup (phase_of setup (Some p)) (is_over setup event r) (with_wager p.wager b) (play_with_round setup p r) (p.number, p.before) r refl refl
+    settled_view setup (open_stage_of setup (Some p)) (is_over setup event r) (with_wager p.wager b) (play_with_round setup p r) (p.number, p.before) r refl refl
     ∙ sym (ap (λ (v : View). record v { count = b.count; kept = b.kept }) is)
 
 -- ================ a choice, by what the play machine answers
 
 -- what is known of the play machine and of the books after a choice was tried
 pub record IsTried (setup : Setup) (event : Event) (b after : Books) (play mid end : Option PlayRecord) (at : StageOpen) (r : Result StageOpen Refusal) : Type 0 where
-  pub answer : r ≡ judgement (refusal play at event) (phase_after setup event play)
+  pub answer : r ≡ judgement (refusal play at event) (stage_after setup event play)
   pub moved : OnOk r (mid ≡ play_after setup event play)
   pub books : IfOk r (λ phase. after ≡ settled setup phase mid b)
   pub left : IfOk r (λ phase. end ≡ left_at phase mid)
@@ -225,16 +225,16 @@ pub record IsTried (setup : Setup) (event : Event) (b after : Books) (play mid e
 
 abbrev Takes : Setup → Event → Type 0
 Takes setup event = (b : Books) (p : PlayRecord) (draw : Option (ℕ × List ℕ)) → IsKept setup b (Some p)
-    → (let phase = phase_after setup event (Some p) in let play = play_after setup event (Some p) in
+    → (let phase = stage_after setup event (Some p) in let play = play_after setup event (Some p) in
     view_of (settled setup phase play b) (left_at phase play) ≡ acted setup (view_of b (Some p)) event draw Reply.Taken)
 
 tried_open : (setup : Setup) (event : Event) → Takes setup event → (b after : Books) (play mid left : Option PlayRecord) (phase : StageOpen) (why : Option Refusal) (draw : Option (ℕ × List ℕ))
-    → (play ≡ None → why ≡ Some Refusal.NoPlay) → Ok phase ≡ judgement why (phase_after setup event play) → mid ≡ play_after setup event play → after ≡ settled setup phase mid b → left ≡ left_at phase mid → IsKept setup b play
+    → (play ≡ None → why ≡ Some Refusal.NoPlay) → Ok phase ≡ judgement why (stage_after setup event play) → mid ≡ play_after setup event play → after ≡ settled setup phase mid b → left ≡ left_at phase mid → IsKept setup b play
     → view_of after left ≡ acted setup (view_of b play) event draw Reply.Taken
 tried_open setup event takes b after None mid left phase why draw none answer moved books is k = absurd (let w = none refl in cc (answer, w))
 tried_open setup event takes b after (Some p) mid left phase (Some why) draw none answer moved books is k = absurd (cc answer)
 tried_open setup event takes b after (Some p) mid left phase None draw none answer moved books is k =
-    let now : phase ≡ phase_after setup event (Some p) = ok_is phase (phase_after setup event (Some p)) answer in
+    let now : phase ≡ stage_after setup event (Some p) = ok_is phase (stage_after setup event (Some p)) answer in
     (λ x. view_of (books x) (is x)) ∙ (λ x. view_of (settled setup (now x) (moved x) b) (left_at (now x) (moved x))) ∙ takes b p draw k
   where
     ok_of : Result StageOpen Refusal → StageOpen
@@ -297,14 +297,14 @@ choice_answer true phase = refl
 choice_answer false phase = refl
 
 -- a pick is answered by the machine as by the rule, where nothing locks it up
-pub pick_answer : (setup : Setup) (b : Books) (play : Option PlayRecord) (at phase : StageOpen) (door : ℕ) → is_some b.handpay ≡ false → at ≡ phase_of setup play
+pub pick_answer : (setup : Setup) (b : Books) (play : Option PlayRecord) (at phase : StageOpen) (door : ℕ) → is_some b.handpay ≡ false → at ≡ open_stage_of setup play
     → replied (judgement (refusal play at (Event.Pick door)) phase) ≡ rule setup (view_of b play) (Event.Pick door)
 pick_answer setup b play at phase door unlocked is =
     ap (λ (s : StageOpen). replied (judgement (refusal play s (Event.Pick door)) phase)) is
     ∙ by_play play
     ∙ sym (ap (λ (locked : Bool). reply_by (locked_up (if locked then Some Condition.Handpay else None) ∷ unless (is_some play) Refusal.NoPlay ∷ unless (is_at setup StageOpen.Pick play && (nat_le 1 door && nat_le door 5)) Refusal.BadChoice ∷ [])) unlocked)
   where
-    by_play : (x : Option PlayRecord) → replied (judgement (refusal x (phase_of setup x) (Event.Pick door)) phase)
+    by_play : (x : Option PlayRecord) → replied (judgement (refusal x (open_stage_of setup x) (Event.Pick door)) phase)
         ≡ reply_by (None ∷ unless (is_some x) Refusal.NoPlay ∷ unless (is_at setup StageOpen.Pick x && (nat_le 1 door && nat_le door 5)) Refusal.BadChoice ∷ [])
     by_play None = refl
     by_play (Some p) = choice_answer (is_at setup StageOpen.Pick (Some p) && (nat_le 1 door && nat_le door 5)) phase
@@ -323,11 +323,11 @@ err_both (Err e) f a b = f a b
 
 pub begun_views : (setup : Setup) (b after : Books) (before left : Option PlayRecord) (bet : ℕ) (drawn : ℕ × List ℕ) (draw : Option (ℕ × List ℕ)) (p : PlayRecord) (reply : Reply)
     → IsKept setup b before → rule setup (view_of b before) (Event.Play Game.Reels bet) ≡ Reply.Taken → draw ≡ Some drawn → p ≡ begun setup b bet drawn.0 drawn.1 → reply ≡ Reply.Taken
-    → after ≡ settled setup (phase_of setup (Some p)) (Some (play_with_round setup p (round_of p))) (with_wager p.wager b) → left ≡ left_at (phase_of setup (Some p)) (Some (play_with_round setup p (round_of p)))
+    → after ≡ settled setup (open_stage_of setup (Some p)) (Some (play_with_round setup p (round_of p))) (with_wager p.wager b) → left ≡ left_at (open_stage_of setup (Some p)) (Some (play_with_round setup p (round_of p)))
     → view_of after left ≡ acted setup (view_of b before) (Event.Play Game.Reels bet) draw reply
 begun_views setup b after before left bet d draw p reply k taken some is replied_so books moved =
     let t = play_taken setup b before bet taken in
     let now : IsKept setup b None = subst (λ (x : Option PlayRecord). IsKept setup b x) t.0 k in
-    let whole : PlayRecord → View = λ q. let s = phase_of setup (Some q) in let play = Some (play_with_round setup q (round_of q)) in view_of (settled setup s play (with_wager q.wager b)) (left_at s play) in
+    let whole : PlayRecord → View = λ q. let s = open_stage_of setup (Some q) in let play = Some (play_with_round setup q (round_of q)) in view_of (settled setup s play (with_wager q.wager b)) (left_at s play) in
     (λ x. view_of (books x) (moved x)) ∙ ap whole is ∙ begun_view setup b bet d.0 d.1 now t.1
     ∙ (λ x. acted setup (view_of b (sym t.0 x)) (Event.Play Game.Reels bet) (sym some x) (sym replied_so x))

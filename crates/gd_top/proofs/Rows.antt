@@ -17,7 +17,7 @@ use Rattle.gd_base.specs.Judging.Product.{machine}
 use Rattle.gd_base.specs.Histories.View.{View}
 use Rattle.gd_disk.specs.declared.disk.CutUnit.{CutUnit}
 use Rattle.gd_script.specs.declared.item.Item.{Item}
-use Rattle.gd_script.specs.declared.item.Side.{Side}
+use Rattle.gd_disk.specs.declared.side.Side.{Side}
 use Rattle.gd_store.specs.declared.copy.states.CopyState.{CopyState}
 use Rattle.gd_store.specs.declared.copy.states.Why.{Why}
 use Rattle.gd_top.specs.Items.{item_told}

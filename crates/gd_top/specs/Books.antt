@@ -19,7 +19,7 @@ use Rattle.gd_base.specs.Payloads.Spelled.{Spelled, Shows, Unreadable}
 use Rattle.gd_base.specs.Games.Stage.{is_bet}
 use Rattle.gd_base.specs.Histories.View.{View}
 use Rattle.gd_base.specs.Histories.ViewOf.{with_entry}
-use Rattle.gd_play.specs.Moving.{phase_of}
+use Rattle.gd_play.specs.Moving.{open_stage_of}
 use Rattle.gd_base.specs.Outside.Blocks.{IsBlock}
 use Rattle.gd_top.specs.declared.first_core.books.Books.{Books}
 use Rattle.gd_top.specs.declared.first_core.reels_table.ReelsTable.{ReelsTable}
@@ -121,5 +121,5 @@ pub record HasRoom (b : Books) : Type 0 where
 -- the view keeps the rules of a view, and the play machine's table and stage are those of the setup and of the play
 pub record AreFit (setup : Setup) (b : Books) (t : ReelsTable) (play : Option PlayRecord) (at : StageOpen) : Type 0 where
   pub table : t.setup ≡ setup
-  pub phase : at ≡ phase_of setup play
+  pub phase : at ≡ open_stage_of setup play
   pub whole : IsTrue (keeps_rules_so_far setup (view_of b play))

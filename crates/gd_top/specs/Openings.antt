@@ -10,7 +10,7 @@ use Rattle.gd_base.specs.Judging.Legal.{next_entry}
 use Rattle.gd_base.specs.Judging.Machine.{Machine, Blocks}
 use Rattle.gd_base.specs.Payloads.LoadedView.{opens}
 use Rattle.gd_base.specs.Payloads.Spelled.{Spelled, Shows, Foreign, Unreadable}
-use Rattle.gd_script.specs.declared.item.Side.{Side}
+use Rattle.gd_disk.specs.declared.side.Side.{Side}
 use Rattle.gd_store.specs.declared.copy.states.Found.{Found}
 use Rattle.gd_store.specs.Repair.{Repair, repaired, syncs_of_repair}
 use Rattle.gd_top.specs.Lines.{power_line, start_line, answer_line, step_line, full_line, locked_line, differs_line}

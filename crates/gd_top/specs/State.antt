@@ -8,7 +8,7 @@ use Rattle.gd_base.specs.Histories.Entry.{Entry}
 use Rattle.gd_base.specs.Judging.Machine.{Machine}
 use Rattle.gd_base.specs.Payloads.Spelled.{Spelled}
 use Rattle.gd_disk.specs.Waits.{Waits}
-use Rattle.gd_script.specs.declared.item.Side.{Side}
+use Rattle.gd_disk.specs.declared.side.Side.{Side}
 use Rattle.gd_store.specs.declared.copy.states.Found.{Found}
 
 -- What a power-on found: the two copies, and of the copy that is booted the sequence and what its payload spells. None

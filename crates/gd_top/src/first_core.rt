@@ -22,7 +22,7 @@ mod showing;
 mod tests;
 
 ghost use Rattle.std.specs.Prelude.{◌≡◌};
-ghost use Rattle.gd_play.specs.Words.{machine_phase, machine_play, machine_table};
+ghost use Rattle.gd_play.specs.PlayMachine.{play_machine_stage, play_machine_play, play_machine_table};
 ghost use Rattle.gd_top.specs.Books.{AreFit};
 
 use self::books::Books;
@@ -36,5 +36,5 @@ pub(crate) struct FirstCore {
     pub(crate) setup: Setup,
     pub(crate) books: Books,
     pub(crate) plays: PlayMachine<ReelsTable>,
-    ghost fit: { AreFit setup books (machine_table plays) (machine_play plays) (machine_phase plays) },
+    ghost fit: { AreFit setup books (play_machine_table plays) (play_machine_play plays) (play_machine_stage plays) },
 }

@@ -12,8 +12,8 @@ ghost use Rattle.gd_base.specs.Histories.Rounds.{round_of};
 ghost use Rattle.gd_base.specs.Judging.Rule.{rule};
 ghost use Rattle.gd_base.specs.Judging.SoFar.{is_drawn_so_far, rule_so_far};
 ghost use Rattle.gd_base.specs.Games.Stage.{is_bet};
-ghost use Rattle.gd_play.specs.Moving.{phase_of, play_with_round};
-ghost use Rattle.gd_play.specs.Words.{machine_phase, machine_play, machine_table};
+ghost use Rattle.gd_play.specs.Moving.{open_stage_of, play_with_round};
+ghost use Rattle.gd_play.specs.PlayMachine.{play_machine_stage, play_machine_play, play_machine_table};
 ghost use Rattle.gd_top.specs.Books.{AreFit, HasRoom, acted, begun, is_fresh, left_at, replied, settled, view_of, with_bill, with_wager};
 
 use super::books::{Books, add};
@@ -68,13 +68,13 @@ fn begin(setup: &Setup, books: &mut Books, plays: &mut PlayMachine<ReelsTable>, 
     requires wagered { slice_index books.old.totals (meter_place Meter.Wagered) < 2 ^ 63 }
     requires played { slice_index books.old.totals (meter_place Meter.GamesPlayed) < 2 ^ 63 }
     requires covered { play.now.wager ≤ books.old.balance }
-    requires none { machine_play plays.old ≡ None }
-    requires table { (machine_table plays.old).setup ≡ setup.now }
+    requires none { play_machine_play plays.old ≡ None }
+    requires table { (play_machine_table plays.old).setup ≡ setup.now }
     requires fresh { IsTrue (is_fresh play.now) }
-    ensures books { books.new ≡ settled setup.now (phase_of setup.now (Some play.now)) (Some (play_with_round setup.now play.now (round_of play.now))) (with_wager play.now.wager books.old) }
-    ensures play { machine_play plays.new ≡ left_at (phase_of setup.now (Some play.now)) (Some (play_with_round setup.now play.now (round_of play.now))) }
-    ensures phase { machine_phase plays.new ≡ phase_of setup.now (Some play.now) }
-    ensures table { machine_table plays.new ≡ machine_table plays.old }
+    ensures books { books.new ≡ settled setup.now (open_stage_of setup.now (Some play.now)) (Some (play_with_round setup.now play.now (round_of play.now))) (with_wager play.now.wager books.old) }
+    ensures play { play_machine_play plays.new ≡ left_at (open_stage_of setup.now (Some play.now)) (Some (play_with_round setup.now play.now (round_of play.now))) }
+    ensures phase { play_machine_stage plays.new ≡ open_stage_of setup.now (Some play.now) }
+    ensures table { play_machine_table plays.new ≡ play_machine_table plays.old }
 {
     books.balance -= u64::from(play.wager);
     add(&mut books.totals, Meter::Wagered, u64::from(play.wager));
@@ -91,13 +91,13 @@ fn act_play(
     bet: u8,
     draw: &Option<(u64, Block)>,
 ) -> Reply
-    requires fit { AreFit setup.now books.old (machine_table plays.old) (machine_play plays.old) (machine_phase plays.old) }
+    requires fit { AreFit setup.now books.old (play_machine_table plays.old) (play_machine_play plays.old) (play_machine_stage plays.old) }
     requires room { books.old.count < 2 ^ 36 }
-    requires drawn { IsDraw (is_drawn_so_far setup.now (view_of books.old (machine_play plays.old)) (Event.Play Game.Reels bet)) (next_index (view_of books.old (machine_play plays.old))) draw.now }
-    ensures answer { result ≡ rule setup.now (view_of books.old (machine_play plays.old)) (Event.Play Game.Reels bet) }
-    ensures view { view_of books.new (machine_play plays.new) ≡ acted setup.now (view_of books.old (machine_play plays.old)) (Event.Play Game.Reels bet) draw.now result }
-    ensures phase { machine_phase plays.new ≡ phase_of setup.now (machine_play plays.new) }
-    ensures table { machine_table plays.new ≡ machine_table plays.old }
+    requires drawn { IsDraw (is_drawn_so_far setup.now (view_of books.old (play_machine_play plays.old)) (Event.Play Game.Reels bet)) (next_index (view_of books.old (play_machine_play plays.old))) draw.now }
+    ensures answer { result ≡ rule setup.now (view_of books.old (play_machine_play plays.old)) (Event.Play Game.Reels bet) }
+    ensures view { view_of books.new (play_machine_play plays.new) ≡ acted setup.now (view_of books.old (play_machine_play plays.old)) (Event.Play Game.Reels bet) draw.now result }
+    ensures phase { play_machine_stage plays.new ≡ open_stage_of setup.now (play_machine_play plays.new) }
+    ensures table { play_machine_table plays.new ≡ play_machine_table plays.old }
 {
     let reply = judge_play(setup, books, plays.open().is_some(), bet);
     let Reply::Taken = reply else {
@@ -119,15 +119,15 @@ fn reply_to(
     moved: Result<StageOpen, Refusal>,
 ) -> Reply
     requires room { HasRoom books.old }
-    requires phase { IfOk moved (λ phase. machine_phase plays.old ≡ phase) }
-    requires play { OnOk moved (IsSome (machine_play plays.old)) }
-    requires win { OnOk moved (IfSome (machine_play plays.old) (λ p. p.win ≤ 100000000)) }
+    requires phase { IfOk moved (λ phase. play_machine_stage plays.old ≡ phase) }
+    requires play { OnOk moved (IsSome (play_machine_play plays.old)) }
+    requires win { OnOk moved (IfSome (play_machine_play plays.old) (λ p. p.win ≤ 100000000)) }
     ensures answer { result ≡ replied moved }
-    ensures books { IfOk moved (λ phase. books.new ≡ settled setup.now phase (machine_play plays.old) books.old) }
-    ensures play { IfOk moved (λ phase. machine_play plays.new ≡ left_at phase (machine_play plays.old)) }
-    ensures phase { machine_phase plays.new ≡ machine_phase plays.old }
+    ensures books { IfOk moved (λ phase. books.new ≡ settled setup.now phase (play_machine_play plays.old) books.old) }
+    ensures play { IfOk moved (λ phase. play_machine_play plays.new ≡ left_at phase (play_machine_play plays.old)) }
+    ensures phase { play_machine_stage plays.new ≡ play_machine_stage plays.old }
     ensures stays { OnErr moved ((books.new ≡ books.old) × (plays.new ≡ plays.old)) }
-    ensures table { machine_table plays.new ≡ machine_table plays.old }
+    ensures table { play_machine_table plays.new ≡ play_machine_table plays.old }
 {
     match moved {
         Ok(phase) => {
@@ -145,11 +145,11 @@ fn act_pick(
     plays: &mut PlayMachine<ReelsTable>,
     door: u8,
 ) -> Reply
-    requires fit { AreFit setup.now books.old (machine_table plays.old) (machine_play plays.old) (machine_phase plays.old) }
-    ensures answer { result ≡ rule setup.now (view_of books.old (machine_play plays.old)) (Event.Pick door) }
-    ensures view { (draw : Option (ℕ × List ℕ)) → view_of books.new (machine_play plays.new) ≡ acted setup.now (view_of books.old (machine_play plays.old)) (Event.Pick door) draw result }
-    ensures phase { machine_phase plays.new ≡ phase_of setup.now (machine_play plays.new) }
-    ensures table { machine_table plays.new ≡ machine_table plays.old }
+    requires fit { AreFit setup.now books.old (play_machine_table plays.old) (play_machine_play plays.old) (play_machine_stage plays.old) }
+    ensures answer { result ≡ rule setup.now (view_of books.old (play_machine_play plays.old)) (Event.Pick door) }
+    ensures view { (draw : Option (ℕ × List ℕ)) → view_of books.new (play_machine_play plays.new) ≡ acted setup.now (view_of books.old (play_machine_play plays.old)) (Event.Pick door) draw result }
+    ensures phase { play_machine_stage plays.new ≡ open_stage_of setup.now (play_machine_play plays.new) }
+    ensures table { play_machine_table plays.new ≡ play_machine_table plays.old }
 {
     if books.handpay.is_some() {
         return Reply::Refused(Refusal::LockedUp(Condition::Handpay));
@@ -160,11 +160,11 @@ fn act_pick(
 
 /// Takes the win of the open play, or refuses it.
 fn act_take(setup: &Setup, books: &mut Books, plays: &mut PlayMachine<ReelsTable>) -> Reply
-    requires fit { AreFit setup.now books.old (machine_table plays.old) (machine_play plays.old) (machine_phase plays.old) }
-    ensures answer { result ≡ rule setup.now (view_of books.old (machine_play plays.old)) Event.Take }
-    ensures view { (draw : Option (ℕ × List ℕ)) → view_of books.new (machine_play plays.new) ≡ acted setup.now (view_of books.old (machine_play plays.old)) Event.Take draw result }
-    ensures phase { machine_phase plays.new ≡ phase_of setup.now (machine_play plays.new) }
-    ensures table { machine_table plays.new ≡ machine_table plays.old }
+    requires fit { AreFit setup.now books.old (play_machine_table plays.old) (play_machine_play plays.old) (play_machine_stage plays.old) }
+    ensures answer { result ≡ rule setup.now (view_of books.old (play_machine_play plays.old)) Event.Take }
+    ensures view { (draw : Option (ℕ × List ℕ)) → view_of books.new (play_machine_play plays.new) ≡ acted setup.now (view_of books.old (play_machine_play plays.old)) Event.Take draw result }
+    ensures phase { play_machine_stage plays.new ≡ open_stage_of setup.now (play_machine_play plays.new) }
+    ensures table { play_machine_table plays.new ≡ play_machine_table plays.old }
 {
     if books.handpay.is_some() {
         return Reply::Refused(Refusal::LockedUp(Condition::Handpay));
@@ -182,13 +182,13 @@ pub(crate) fn act(
     event: &Event,
     draw: &Option<(u64, Block)>,
 ) -> Reply
-    requires fit { AreFit setup.now books.old (machine_table plays.old) (machine_play plays.old) (machine_phase plays.old) }
+    requires fit { AreFit setup.now books.old (play_machine_table plays.old) (play_machine_play plays.old) (play_machine_stage plays.old) }
     requires room { books.old.count < 2 ^ 36 }
-    requires drawn { IsDraw (is_drawn_so_far setup.now (view_of books.old (machine_play plays.old)) event.now) (next_index (view_of books.old (machine_play plays.old))) draw.now }
-    ensures answer { result ≡ rule_so_far setup.now (view_of books.old (machine_play plays.old)) event.now }
-    ensures view { view_of books.new (machine_play plays.new) ≡ acted setup.now (view_of books.old (machine_play plays.old)) event.now draw.now result }
-    ensures phase { machine_phase plays.new ≡ phase_of setup.now (machine_play plays.new) }
-    ensures table { machine_table plays.new ≡ machine_table plays.old }
+    requires drawn { IsDraw (is_drawn_so_far setup.now (view_of books.old (play_machine_play plays.old)) event.now) (next_index (view_of books.old (play_machine_play plays.old))) draw.now }
+    ensures answer { result ≡ rule_so_far setup.now (view_of books.old (play_machine_play plays.old)) event.now }
+    ensures view { view_of books.new (play_machine_play plays.new) ≡ acted setup.now (view_of books.old (play_machine_play plays.old)) event.now draw.now result }
+    ensures phase { play_machine_stage plays.new ≡ open_stage_of setup.now (play_machine_play plays.new) }
+    ensures table { play_machine_table plays.new ≡ play_machine_table plays.old }
 {
     match event {
         Event::Bill { value } => act_bill(setup, books, *value),

@@ -7,7 +7,7 @@ ghost use Rattle.gd_base.specs.Histories.Numbers.{device_place};
 ghost use Rattle.gd_base.specs.Judging.SoFar.{machine_so_far};
 ghost use Rattle.gd_base.specs.Histories.View.{View};
 ghost use Rattle.gd_base.specs.Payloads.ViewCode.{coded_view};
-ghost use Rattle.gd_play.specs.Words.{machine_play};
+ghost use Rattle.gd_play.specs.PlayMachine.{play_machine_play};
 ghost use Rattle.gd_top.specs.Books.{view_of};
 
 use super::FirstCore;
@@ -29,7 +29,7 @@ impl FirstCore {
     /// A core of the empty history.
     pub(crate) fn new(setup: Setup) -> Self
         ensures setup { result.setup ≡ setup }
-        ensures empty { view_of result.books (machine_play result.plays) ≡ (machine_so_far setup).empty }
+        ensures empty { view_of result.books (play_machine_play result.plays) ≡ (machine_so_far setup).empty }
     {
         FirstCore {
             setup,
@@ -50,7 +50,7 @@ impl FirstCore {
     /// Whether an event is new.
     #[tactic(auto, unfolding(gd_base::specs::Answer::answer))]
     fn is_next(&self, e: &Numbered) -> bool
-        ensures { result ≡ is_new (answer (machine_so_far self.now.setup) (view_of self.now.books (machine_play self.now.plays)) e.now) }
+        ensures { result ≡ is_new (answer (machine_so_far self.now.setup) (view_of self.now.books (play_machine_play self.now.plays)) e.now) }
     {
         e.number == self.kept(e.event.device()).0 + 1 && self.books.count < MOST_ENTRIES
     }
@@ -63,7 +63,7 @@ impl Core for FirstCore {
 
     ghost meaning = { λ c. machine_so_far c.setup };
 
-    ghost view = { λ c. view_of c.books (machine_play c.plays) };
+    ghost view = { λ c. view_of c.books (play_machine_play c.plays) };
 
     fn needs_draw(&self, e: &Numbered) -> bool {
         match e.event {

@@ -1,7 +1,7 @@
 //! How the win of a play that has ended goes into the books.
 
 ghost use Rattle.std.specs.Prelude.{◌≡◌, ◌≤◌, ◌<◌, ◌^◌, IsSome, IfSome};
-ghost use Rattle.gd_play.specs.Words.{machine_phase, machine_play, machine_table};
+ghost use Rattle.gd_play.specs.PlayMachine.{play_machine_stage, play_machine_play, play_machine_table};
 ghost use Rattle.gd_top.specs.Books.{HasRoom, left_at, settled, with_win};
 
 use super::books::{Books, add};
@@ -32,8 +32,8 @@ fn post_win(setup: &Setup, books: &mut Books, win: u64)
 
 /// The win of the open play.
 fn open_win(plays: &PlayMachine<ReelsTable>) -> u64
-    requires { IsSome (machine_play plays.now) }
-    ensures { IfSome (machine_play plays.now) (λ p. result ≡ p.win) }
+    requires { IsSome (play_machine_play plays.now) }
+    ensures { IfSome (play_machine_play plays.now) (λ p. result ≡ p.win) }
 {
     match plays.open() {
         Some(play) => play.win,
@@ -49,13 +49,13 @@ pub(crate) fn settle(
     phase: StageOpen,
 )
     requires room { HasRoom books.old }
-    requires phase { machine_phase plays.old ≡ phase }
-    requires play { IsSome (machine_play plays.old) }
-    requires win { IfSome (machine_play plays.old) (λ p. p.win ≤ 100000000) }
-    ensures books { books.new ≡ settled setup.now phase (machine_play plays.old) books.old }
-    ensures play { machine_play plays.new ≡ left_at phase (machine_play plays.old) }
-    ensures phase { machine_phase plays.new ≡ phase }
-    ensures table { machine_table plays.new ≡ machine_table plays.old }
+    requires phase { play_machine_stage plays.old ≡ phase }
+    requires play { IsSome (play_machine_play plays.old) }
+    requires win { IfSome (play_machine_play plays.old) (λ p. p.win ≤ 100000000) }
+    ensures books { books.new ≡ settled setup.now phase (play_machine_play plays.old) books.old }
+    ensures play { play_machine_play plays.new ≡ left_at phase (play_machine_play plays.old) }
+    ensures phase { play_machine_stage plays.new ≡ phase }
+    ensures table { play_machine_table plays.new ≡ play_machine_table plays.old }
 {
     if let StageOpen::Ended = phase {
         let win = open_win(plays);

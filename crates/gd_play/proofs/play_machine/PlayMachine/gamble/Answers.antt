@@ -2,7 +2,7 @@ use Rattle.std.proofs.Common.{◌+◌, ◌<◌, ap, ◌∙◌, rules, ℕ}
 use Rattle.gd_base.specs.Histories.Rounds.{choices_of}
 use Rattle.gd_base.specs.Games.Stage.{are_choices}
 use Rattle.gd_play.proofs.Held.{gamble_held}
-use Rattle.gd_play.proofs.Turns.{one_turn_more}
+use Rattle.gd_base.proofs.StageLemmas.Turns.{one_turn_more}
 use Rattle.gd_play.proofs.play_machine.PlayMachine.gamble.Goals as goal
 
 pub overflow_add-play : goal.overflow_add-play

@@ -4,8 +4,8 @@ use Rattle.gd_base.specs.declared.event.Event.{Event}
 use Rattle.gd_base.specs.declared.refusal.Refusal.{Refusal}
 use Rattle.gd_base.specs.declared.setup.Setup.{Setup}
 use Rattle.gd_play.specs.Judging.{refusal, judgement}
-use Rattle.gd_play.specs.Moving.{phase_after, play_after}
-use Rattle.gd_play.specs.Words.{machine_phase, machine_play, machine_table}
+use Rattle.gd_play.specs.Moving.{stage_after, play_after}
+use Rattle.gd_play.specs.PlayMachine.{play_machine_stage, play_machine_play, play_machine_table}
 use Rattle.gd_top.specs.Books.{acted, replied, view_of}
 use Rattle.gd_top.proofs.Plays.{IsTried, kept_by_fit, room_by, stands, small_by, picked_small, pick_answer, pick_tried, err_map, err_both}
 use Rattle.gd_top.proofs.first_core.acting.act_pick.Goals as goal
@@ -14,55 +14,55 @@ pub returns-then-is_some-clause-view : goal.returns-then-is_some-clause-view
 returns-then-is_some-clause-view c =
     let setup = c.args.setup.now in
     let b = c.args.books.now in
-    let play = machine_play c.args.plays.now in
-    let k = kept_by_fit setup b (machine_table c.args.plays.now) play (machine_phase c.args.plays.now) c.requires.fit in
+    let play = play_machine_play c.args.plays.now in
+    let k = kept_by_fit setup b (play_machine_table c.args.plays.now) play (play_machine_stage c.args.plays.now) c.requires.fit in
     λ draw. stands setup b play (Event.Pick c.args.door) draw (Refusal.LockedUp Condition.Handpay) k
 
 pub reply_to-requires-clause-room : goal.reply_to-requires-clause-room
 reply_to-requires-clause-room c =
     let setup = c.args.setup.now in
     let b = c.args.books.now in
-    let play = machine_play c.args.plays.now in
-    let k = kept_by_fit setup b (machine_table c.args.plays.now) play (machine_phase c.args.plays.now) c.requires.fit in
+    let play = play_machine_play c.args.plays.now in
+    let k = kept_by_fit setup b (play_machine_table c.args.plays.now) play (play_machine_stage c.args.plays.now) c.requires.fit in
     room_by setup b play k
 
 pub reply_to-requires-clause-win : goal.reply_to-requires-clause-win
 reply_to-requires-clause-win c =
     let setup = c.args.setup.now in
     let b = c.args.books.now in
-    let play = machine_play c.args.plays.now in
-    let k = kept_by_fit setup b (machine_table c.args.plays.now) play (machine_phase c.args.plays.now) c.requires.fit in
-    small_by c.choose-moved.result (machine_play c.choose-moved.new.self) (play_after (machine_table c.args.plays.now).setup (Event.Pick c.args.door) play) c.choose-moved.ensures.play
-    (picked_small (machine_table c.args.plays.now).setup setup b.count c.args.door play k.open_play)
+    let play = play_machine_play c.args.plays.now in
+    let k = kept_by_fit setup b (play_machine_table c.args.plays.now) play (play_machine_stage c.args.plays.now) c.requires.fit in
+    small_by c.choose-moved.result (play_machine_play c.choose-moved.new.self) (play_after (play_machine_table c.args.plays.now).setup (Event.Pick c.args.door) play) c.choose-moved.ensures.play
+    (picked_small (play_machine_table c.args.plays.now).setup setup b.count c.args.door play k.open_play)
 
 pub returns-clause-answer : goal.returns-clause-answer
 returns-clause-answer c =
     let setup = c.args.setup.now in
     let b = c.args.books.now in
-    let play = machine_play c.args.plays.now in
-    let at = machine_phase c.args.plays.now in
-    let own = (machine_table c.args.plays.now).setup in
+    let play = play_machine_play c.args.plays.now in
+    let at = play_machine_stage c.args.plays.now in
+    let own = (play_machine_table c.args.plays.now).setup in
     c.reply_to.ensures.answer ∙ ap replied c.choose-moved.ensures.answer
-    ∙ pick_answer setup b play at (phase_after own (Event.Pick c.args.door) play) c.args.door (sym c.is_some.ensures ∙ c.if-is_some.false) c.requires.fit.phase
+    ∙ pick_answer setup b play at (stage_after own (Event.Pick c.args.door) play) c.args.door (sym c.is_some.ensures ∙ c.if-is_some.false) c.requires.fit.phase
 
 pub returns-clause-view : goal.returns-clause-view
 returns-clause-view c =
     let setup = c.args.setup.now in
     let b = c.args.books.now in
-    let play = machine_play c.args.plays.now in
-    let k = kept_by_fit setup b (machine_table c.args.plays.now) play (machine_phase c.args.plays.now) c.requires.fit in
+    let play = play_machine_play c.args.plays.now in
+    let k = kept_by_fit setup b (play_machine_table c.args.plays.now) play (play_machine_stage c.args.plays.now) c.requires.fit in
     let event = (Event.Pick c.args.door) in
-    let at = machine_phase c.args.plays.now in
+    let at = play_machine_stage c.args.plays.now in
     let r = c.choose-moved.result in
-    let mid = machine_play c.choose-moved.new.self in
+    let mid = play_machine_play c.choose-moved.new.self in
     let after = c.reply_to.new.books in
-    let left = machine_play c.reply_to.new.plays in
+    let left = play_machine_play c.reply_to.new.plays in
     let tried : IsTried setup event b after play mid left at r = record {
-      answer = subst (λ (s : Setup). r ≡ judgement (refusal play at event) (phase_after s event play)) c.requires.fit.table c.choose-moved.ensures.answer;
+      answer = subst (λ (s : Setup). r ≡ judgement (refusal play at event) (stage_after s event play)) c.requires.fit.table c.choose-moved.ensures.answer;
       moved = subst (λ (s : Setup). OnOk r (mid ≡ play_after s event play)) c.requires.fit.table c.choose-moved.ensures.play;
       books = c.reply_to.ensures.books;
       left = c.reply_to.ensures.play;
       same_books = err_map r (λ t. t.0) c.reply_to.ensures.stays;
-      same_play = err_both r (λ t u. ap machine_play t.1 ∙ ap machine_play u) c.reply_to.ensures.stays c.choose-moved.ensures.stays;
+      same_play = err_both r (λ t u. ap play_machine_play t.1 ∙ ap play_machine_play u) c.reply_to.ensures.stays c.choose-moved.ensures.stays;
     } in
     λ draw. pick_tried setup c.args.door b after play mid left at r draw tried k ∙ ap (acted setup (view_of b play) event draw) (sym c.reply_to.ensures.answer)

@@ -2,7 +2,7 @@ use Rattle.std.proofs.Common.{◌≡◌, ◌&&◌, ◌^◌, ℕ, nat_lt, length,
 use Rattle.gd_base.proofs.BoolTests.{both}
 use Rattle.gd_base.specs.Games.Stage.{could_turn, gamble_stage, is_choice}
 use Rattle.gd_play.proofs.ToyLemmas.{shows_pick, stage_of_door, stage_of_pick}
-use Rattle.gd_play.proofs.Turns.{at_most_five}
+use Rattle.gd_base.proofs.StageLemmas.Turns.{most_turns}
 use Rattle.gd_play.proofs.tests.toy.ToyPaytable.stage.Goals as goal
 
 pub returns-in-None : goal.returns-in-None
@@ -18,7 +18,7 @@ win_after-win-requires-clause-turns c =
     let words = c.args.words.now in
     let cs = c.args.choices.now in
     let could = both (is_choice setup c.args._game words cs.choice && nat_lt cs.colours (2 ^ cs.turns)) (could_turn setup c.args._game c.args.bet words cs cs.turns) c.requires.choices in
-    at_most_five setup c.args._game c.args.bet words cs cs.turns could.1
+    most_turns setup c.args._game c.args.bet words cs cs.turns could.1
 
 pub returns-in-Some : goal.returns-in-Some
 returns-in-Some c =

@@ -10,7 +10,7 @@ use Rattle.gd_base.specs.Histories.Numbers.{device_place}
 use Rattle.gd_base.specs.Judging.SoFar.{machine_so_far, is_drawn_so_far, keeps_rules_so_far}
 use Rattle.gd_base.specs.Histories.Devices.{with_reply}
 use Rattle.gd_base.proofs.AnswerLemmas.Answer.{answer_new}
-use Rattle.gd_play.specs.Words.{machine_phase, machine_play, machine_table}
+use Rattle.gd_play.specs.PlayMachine.{play_machine_stage, play_machine_play, play_machine_table}
 use Rattle.gd_top.specs.Books.{view_of}
 use Rattle.gd_top.specs.declared.first_core.reels_table.ReelsTable.{ReelsTable}
 use Rattle.gd_top.proofs.Plays.{kept_by_fit}
@@ -23,11 +23,11 @@ invariant_of-self c =
     let core = c.args.self.now in
     let e = c.args.e.now in
     let draw = c.args.draw in
-    let play = machine_play core.plays in
+    let play = play_machine_play core.plays in
     let v = view_of core.books play in
     let reply = c.act-reply.result in
-    let after = view_of c.note.new.books (machine_play c.act-reply.new.plays) in
-    let k = kept_by_fit core.setup core.books (machine_table core.plays) play (machine_phase core.plays) core.fit in
+    let after = view_of c.note.new.books (play_machine_play c.act-reply.new.plays) in
+    let k = kept_by_fit core.setup core.books (play_machine_table core.plays) play (play_machine_stage core.plays) core.fit in
     let A = c.act-reply.ensures.view in
     let last : c.kept-last.result.0 ≡ (kept_at core.books.kept (device_place (device_of e.event))).0 =
     ap (λ (k : Kept). k.0) c.kept-last.ensures.value ∙ ap (λ (d : Device). (kept_at core.books.kept (device_place d)).0) c.device.ensures in
@@ -35,7 +35,7 @@ invariant_of-self c =
     let new = answer_new (machine_so_far core.setup) v e number c.if-self-ge-MOST_ENTRIES.false in
     let drawn = subst (λ (s : Stepped). IsDraw (is_new s && is_drawn_so_far core.setup v e.event) (next_index v) draw) new c.requires.draw in
     let is : after ≡ after_entry core.setup v e.number e.event draw reply =
-    (λ x. view_of (c.note.ensures x) (machine_play c.act-reply.new.plays)) ∙ (λ x. record (A x) { count = (A x).count + 1; kept = with_reply (device_of e.event) reply (A x).kept }) in
+    (λ x. view_of (c.note.ensures x) (play_machine_play c.act-reply.new.plays)) ∙ (λ x. record (A x) { count = (A x).count + 1; kept = with_reply (device_of e.event) reply (A x).kept }) in
     record {
       fit = record {
         table = ap (λ (t : ReelsTable). t.setup) c.act-reply.ensures.table ∙ core.fit.table;
@@ -49,7 +49,7 @@ pub returns-clause-answer : goal.returns-clause-answer
 returns-clause-answer c =
     let core = c.args.self.now in
     let e = c.args.e.now in
-    let v = view_of core.books (machine_play core.plays) in
+    let v = view_of core.books (play_machine_play core.plays) in
     let last : c.kept-last.result.0 ≡ (kept_at core.books.kept (device_place (device_of e.event))).0 =
     ap (λ (k : Kept). k.0) c.kept-last.ensures.value ∙ ap (λ (d : Device). (kept_at core.books.kept (device_place d)).0) c.device.ensures in
     let number = c.if-e-last-2.false ∙ ap (λ (n : ℕ). n + 1) last in
@@ -61,10 +61,10 @@ returns-clause-view c =
     let core = c.args.self.now in
     let e = c.args.e.now in
     let draw = c.args.draw in
-    let v = view_of core.books (machine_play core.plays) in
+    let v = view_of core.books (play_machine_play core.plays) in
     let reply = c.act-reply.result in
     let M = machine_so_far core.setup in
     let A = c.act-reply.ensures.view in
-    (λ x. view_of (c.note.ensures x) (machine_play c.act-reply.new.plays))
+    (λ x. view_of (c.note.ensures x) (play_machine_play c.act-reply.new.plays))
     ∙ (λ x. record (A x) { count = (A x).count + 1; kept = with_reply (device_of e.event) reply (A x).kept })
     ∙ ap (λ (r : Reply). let y : Entry = record { number = e.number; event = e.event; draw = draw; reply = r } in M.effect v y) c.act-reply.ensures.answer

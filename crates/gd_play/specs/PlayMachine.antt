@@ -5,13 +5,13 @@ use Rattle.gd_base.specs.declared.play.StageOpen.{StageOpen}
 use Rattle.gd_play.specs.declared.play_machine.PlayMachine.{PlayMachine}
 
 -- the paytable of a machine
-abbrev pub machine_table : {P : Type 0} {g : _} → PlayMachine P g → P
-machine_table machine = machine.table
+abbrev pub play_machine_table : {P : Type 0} {g : _} → PlayMachine P g → P
+play_machine_table machine = machine.table
 
 -- the play that was begun and not yet handed out
-abbrev pub machine_play : {P : Type 0} {g : _} → PlayMachine P g → Option PlayRecord
-machine_play machine = machine.play
+abbrev pub play_machine_play : {P : Type 0} {g : _} → PlayMachine P g → Option PlayRecord
+play_machine_play machine = machine.play
 
 -- the stage that is open in it, Ended where it is over or there is none
-abbrev pub machine_phase : {P : Type 0} {g : _} → PlayMachine P g → StageOpen
-machine_phase machine = machine.phase
+abbrev pub play_machine_stage : {P : Type 0} {g : _} → PlayMachine P g → StageOpen
+play_machine_stage machine = machine.phase
