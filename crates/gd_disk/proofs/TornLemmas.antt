@@ -14,12 +14,13 @@ use Rattle.gd_disk.proofs.Written.{torn-written, length-written}
 pub length-halves : (n : ℕ) → length (halves n) ≡ n
 length-halves n = omega (arith, length-append (replicate (n / 2) FIRST_HALF) (replicate (n - n / 2) SECOND_HALF), length-replicate (n / 2) FIRST_HALF, length-replicate (n - n / 2) SECOND_HALF)
 
--- the mark of a place in the first half, and in the second
+-- the mark of a place in the first half
 first_half : (n k : ℕ) → k < n / 2 → get_or (halves n) k 0 ≡ FIRST_HALF
 first_half n k lt =
     get_or_append_left (replicate (n / 2) FIRST_HALF) (replicate (n - n / 2) SECOND_HALF) 0 k (omega (arith, lt, length-replicate (n / 2) FIRST_HALF))
     ∙ get_or-replicate (n / 2) k FIRST_HALF 0 lt
 
+-- and in the second
 second_half : (n k : ℕ) → n / 2 ≤ k → k < n → get_or (halves n) k 0 ≡ SECOND_HALF
 second_half n k le lt =
     get_or-append_right (replicate (n / 2) FIRST_HALF) (replicate (n - n / 2) SECOND_HALF) (n / 2) k 0 (length-replicate (n / 2) FIRST_HALF) le
@@ -27,16 +28,20 @@ second_half n k le lt =
 
 -- what two spans of marks make of them
 module _ (at n : ℕ) (old mid new : List ℕ) (fits : at + n ≤ length old) (mid_long : length mid ≡ length old) (new_long : length new ≡ length mid) (out_first : (i : ℕ) → (i < at) ⊎ (at + n / 2 ≤ i) → get_or mid i 0 ≡ get_or old i 0) (in_first : (i : ℕ) → at ≤ i → i < at + n / 2 → get_or mid i 0 ≡ FIRST_HALF) (out_second : (i : ℕ) → (i < at + n / 2) ⊎ (at + n ≤ i) → get_or new i 0 ≡ get_or mid i 0) (in_second : (i : ℕ) → at + n / 2 ≤ i → i < at + n → get_or new i 0 ≡ SECOND_HALF) where
+  -- the marks stand within the list
   fits_marks : at + length (halves n) ≤ length old
   fits_marks = omega (arith, fits, length-halves n)
 
+  -- a place of the write has the mark of its half
   in_halves : (i : ℕ) → at ≤ i → i < at + n → (i < at + n / 2) ⊎ (at + n / 2 ≤ i) → get_or new i 0 ≡ get_or (halves n) (i - at) 0
   in_halves i low high (inl lt) = out_second i (inl lt) ∙ in_first i low lt ∙ sym (first_half n (i - at) (omega (arith, low, lt)))
   in_halves i low high (inr le) = in_second i le high ∙ sym (second_half n (i - at) (omega (arith, low, le)) (omega (arith, low, high)))
 
+  -- each place is before the second half or not
   in_first_or_second : (i : ℕ) → (i < at + n / 2) ⊎ (at + n / 2 ≤ i)
   in_first_or_second i = cases_lt i (at + n / 2)
 
+  -- each place has the mark that stands there after the write
   each : (i : ℕ) → ((i < at) ⊎ (at + n ≤ i)) ⊎ ((at ≤ i) × (i < at + n)) → get_or new i 0 ≡ get_or (with_bytes at (halves n) old) i 0
   each i (inl out) =
       out_second i (⊎_elim (λ before. inl (omega (arith, before))) (λ behind. inr behind) out)
@@ -46,6 +51,7 @@ module _ (at n : ℕ) (old mid new : List ℕ) (fits : at + n ≤ length old) (m
       in_halves i within.0 within.1 (in_first_or_second i)
       ∙ sym (byte_within at (halves n) old i fits_marks within.0 (omega (arith, within.1, length-halves n)))
 
+  -- so the two spans are the halves of one write
   pub marked_halves : new ≡ with_bytes at (halves n) old
   marked_halves = ext_get_or 0 new (with_bytes at (halves n) old) (new_long ∙ mid_long ∙ sym (length-written at (halves n) old fits_marks)) (λ i lt. each i (in_span at (at + n) i))
 
@@ -80,6 +86,7 @@ pub torn_whole : (torn low high : ℕ) (durable current marks now : List ℕ) �
 torn_whole torn low high durable current marks now is span long within out = ext_get_or 0 now (torn_image torn durable current marks) (long ∙ is.can.same_length ∙ sym (length-torn_image torn durable current marks is.can.same_length is.marks_length))
     (λ i lt. each i (omega (arith, lt, long, is.can.same_length)) (in_span low high i) ∙ sym (get_or-torn_image torn durable current marks i (omega (arith, lt, long, is.can.same_length)) is.can.same_length is.marks_length))
   where
+    -- each byte is what a loss leaves there
     each : (i : ℕ) → i < length durable → ((i < low) ⊎ (high ≤ i)) ⊎ ((low ≤ i) × (i < high)) → get_or now i 0 ≡ left_of torn (get_or durable i 0) (get_or current i 0) (get_or marks i 0)
     each i lt (inl beyond) = out i beyond ∙ is.can.stands i lt (span.elsewhere i beyond) ∙ sym (ap (λ (m : ℕ). left_of torn (get_or durable i 0) (get_or current i 0) m) (span.elsewhere i beyond))
     each i lt (inr in_it) = within i in_it.0 in_it.1

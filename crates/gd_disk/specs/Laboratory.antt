@@ -12,7 +12,7 @@ pub record Inside : Type 0 where
   pub durable : List ℕ
   pub current : List ℕ
   pub marks : List ℕ
-  -- the kind of the latest loss, from 0 to 3
+  -- the kind of the latest loss
   pub torn : ℕ
   -- how its calls are counted, and which is the fault
   pub plan : Plan

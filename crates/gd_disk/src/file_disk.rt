@@ -1,5 +1,5 @@
 //! A disk over a file.
-ghost use Rattle.std.specs.Prelude.{◌≡◌, IsOk, IsErr, true, false};
+ghost use Rattle.std.specs.Prelude.{◌≡◌, IsOk, IsErr, is_some, true, false};
 ghost use Rattle.gd_disk.specs.Disk.{next_count};
 
 use crate::{DISK_LEN, Disk, Off};
@@ -51,7 +51,8 @@ impl FileDisk {
 
     /// The disk over an open file, or one that is off.
     pub(crate) fn over(file: Option<File>) -> FileDisk
-        ensures { HasDoneNothing (file_state result) }
+        ensures fresh { HasDoneNothing (file_state result) }
+        ensures on { (file_state result).is_on ≡ is_some file }
     {
         FileDisk {
             is_on: file.is_some(),
