@@ -1,5 +1,5 @@
-pub mod Cutting
-pub mod Moments
-pub mod OneEvent
+mod Cutting
+mod Moments
+mod OneEvent
 pub mod Showing
-pub mod WholeOpenings
+mod WholeOpenings

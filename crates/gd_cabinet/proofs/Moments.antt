@@ -9,7 +9,7 @@ use Rattle.gd_base.specs.Payloads.Spelled.{Shows}
 use Rattle.gd_store.specs.Writing.{KeepsBoot, From}
 use Rattle.gd_store.specs.declared.copy.layout.TheConstants.{LAYOUT}
 use Rattle.gd_cabinet.specs.Shown.{shows, spelled_boot, ShowsEither}
-use Rattle.gd_cabinet.specs.Opening.{IsOpening, KeepsView, started}
+use Rattle.gd_cabinet.specs.Opening.{IsOpening, KeepsView, view_started}
 
 -- what keeps the boot keeps the view
 keeps_view : {V : Type 0} (M : Machine V) (s : DiskState) (c : List ℕ) → KeepsBoot LAYOUT s c → KeepsView M s c
@@ -20,9 +20,9 @@ pub repair_moments : {V : Type 0} (M : Machine V) (blocks : Blocks) (lap : ℕ) 
 repair_moments M blocks lap s0 s1 run = weaker s0 s1 _ _ run (λ c keeps. inl (keeps_view M s0 c keeps))
 
 -- a repair, and then the start
-pub opening_moments : {V : Type 0} (M N : Machine V) (blocks : Blocks) (lap : ℕ) (v : V) (s0 s1 s2 : DiskState) → N ≡ M → LeavesOnly s0 s1 (KeepsBoot LAYOUT s0) → LeavesOnly s1 s2 (ShowsEither N v (started N blocks lap v)) → IfTold s0.seen (λ image. shows M image ≡ Shows v) → LeavesOnly s0 s2 (IsOpening M blocks lap s0)
+pub opening_moments : {V : Type 0} (M N : Machine V) (blocks : Blocks) (lap : ℕ) (v : V) (s0 s1 s2 : DiskState) → N ≡ M → LeavesOnly s0 s1 (KeepsBoot LAYOUT s0) → LeavesOnly s1 s2 (ShowsEither N v (view_started N blocks lap v)) → IfTold s0.seen (λ image. shows M image ≡ Shows v) → LeavesOnly s0 s2 (IsOpening M blocks lap s0)
 opening_moments M N blocks lap v s0 s1 s2 same first second told =
-    and_then s0 s1 s2 _ _ _ first (subst (λ K. LeavesOnly s1 s2 (ShowsEither K v (started K blocks lap v))) same second) (λ c keeps. inl (keeps_view M s0 c keeps)) (λ c either. inr (v, told, either))
+    and_then s0 s1 s2 _ _ _ first (subst (λ K. LeavesOnly s1 s2 (ShowsEither K v (view_started K blocks lap v))) same second) (λ c keeps. inl (keeps_view M s0 c keeps)) (λ c either. inr (v, told, either))
 
 -- reads alone
 pub reads_alone : {V : Type 0} (M : Machine V) (blocks : Blocks) (lap : ℕ) (s0 s1 : DiskState) → LeavesOnly s0 s1 (From s0 Unchanged) → LeavesOnly s0 s1 (IsOpening M blocks lap s0)

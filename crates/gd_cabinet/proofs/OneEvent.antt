@@ -1,9 +1,8 @@
 -- What an event that is offered leaves.
 use Rattle.std.proofs.Common.{◌≡◌, ◌∙◌, ◌⊎◌, inl, inr, ⊎_elim, sym, ap, subst, refl, arith, ℕ, ◌+◌, List, Result, Ok, Err, Option, Some, None, if◌then◌else◌, ◌&&◌}
 use Rattle.gd_disk.specs.Disk.{DiskState}
-use Rattle.gd_disk.specs.Runs.{LeavesOnly, CutsOfRun}
+use Rattle.gd_disk.specs.Runs.{LeavesOnly}
 use Rattle.gd_disk.specs.CutRuns.{RunOf}
-use Rattle.gd_disk.proofs.Cuts.{none_made}
 use Rattle.gd_disk.proofs.Runs.{started, weaker}
 use Rattle.gd_disk.proofs.WholeRuns.{no_syncs, run_fails}
 use Rattle.gd_base.specs.Judging.Answer.{answer, after_answer, is_new, draw_for}
@@ -14,7 +13,7 @@ use Rattle.gd_base.specs.declared.step.Numbered.{Numbered}
 use Rattle.gd_base.specs.declared.step.Stepped.{Stepped}
 use Rattle.gd_store.specs.Copy.{boots, HoldsBoth}
 use Rattle.gd_store.specs.declared.copy.layout.TheConstants.{LAYOUT}
-use Rattle.gd_cabinet.specs.Answered.{offered, syncs_of}
+use Rattle.gd_cabinet.specs.Answered.{view_offered, syncs_of}
 use Rattle.gd_cabinet.specs.Shown.{shows, ShowsEither}
 use Rattle.gd_cabinet.proofs.Showing.{settled_shows}
 
@@ -28,7 +27,7 @@ same_entry M blocks lap v e Stepped.HistoryFull = refl
 
 -- the view that a core has after its step
 pub stepped_view : {V : Type 0} (M : Machine V) (blocks : Blocks) (lap : ℕ) (v w : V) (e : Numbered) (draw : Option (ℕ × List ℕ)) (s : Stepped)
-    → draw ≡ draw_for M blocks lap v e → s ≡ answer M v e → w ≡ after_answer M v e draw s → w ≡ offered M blocks lap v e
+    → draw ≡ draw_for M blocks lap v e → s ≡ answer M v e → w ≡ after_answer M v e draw s → w ≡ view_offered M blocks lap v e
 stepped_view M blocks lap v w e draw s is_draw is_answer is =
     is ∙ ap (λ (d : Option (ℕ × List ℕ)). after_answer M v e d s) is_draw
     ∙ ap (λ (t : Stepped). after_answer M v e (draw_for M blocks lap v e) t) is_answer ∙ same_entry M blocks lap v e (answer M v e)
@@ -49,10 +48,6 @@ kept_moments M N n p v w x s0 s1 same is spelled count run = weaker s0 s1 _ _ ru
 pub no_moments : {V : Type 0} (M : Machine V) (n : ℕ) (p : List ℕ) (v x : V) (s : DiskState) → M.spelled p ≡ Shows v → M.count v ≡ n
     → ((c : List ℕ) → s.may_find c → HoldsBoth LAYOUT n p c × (boots LAYOUT c ≡ Some (n, p))) → LeavesOnly s s (ShowsEither M v x)
 no_moments M n p v x s spelled count settled = started s _ (λ c may. inl (settled_shows M n p v c (settled c may).1 spelled count))
-
-pub no_cuts : {V T E : Type 0} (M : Machine V) (v : V) (e : Numbered) (s : Stepped) (a : T) (disk : DiskState) → s ≡ answer M v e → syncs_of (is_new s) ≡ 0
-    → CutsOfRun {T = T} {E = E} (syncs_of (is_new (answer M v e))) (Ok a) disk disk
-no_cuts M v e s a disk is none = none_made (syncs_of (is_new (answer M v e))) a disk (ap (λ (t : Stepped). syncs_of (is_new t)) (sym is) ∙ none)
 
 pub no_run : {V T E : Type 0} (M : Machine V) (v : V) (e : Numbered) (s : Stepped) (a : T) (disk : DiskState) → s ≡ answer M v e → syncs_of (is_new s) ≡ 0
     → RunOf {T = T} {E = E} (syncs_of (is_new (answer M v e))) (Ok a) disk disk

@@ -1,4 +1,4 @@
--- What an image shows that boots to a payload which was kept or loaded.
+-- For callers: what an image shows that boots to a payload which was kept or loaded.
 use Rattle.std.proofs.Common.{◌≡◌, ◌∙◌, sym, ap, subst, arith, ℕ, List, Option, Some, None, refl}
 use Rattle.std.proofs.lemmas.Bool.Decides.{nat_tests}
 use Rattle.gd_base.specs.Judging.Machine.{Machine}

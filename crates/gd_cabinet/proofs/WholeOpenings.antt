@@ -11,17 +11,17 @@ use Rattle.gd_disk.proofs.WholeRuns.{run_on, run_fails, after_none, whole_then}
 use Rattle.gd_store.specs.Booting.{IsFound}
 use Rattle.gd_store.specs.Copy.{boots}
 use Rattle.gd_store.specs.Opening.{repairs_of}
-use Rattle.gd_store.specs.Repair.{Repair, NoRepair, RepairA, RepairB, repaired, syncs_of_repair}
+use Rattle.gd_store.specs.Repair.{Repair, NoRepair, RepairA, RepairB, repair_needed, syncs_of_repair}
 use Rattle.gd_store.specs.declared.copy.states.Found.{Found}
 use Rattle.gd_store.specs.declared.copy.layout.TheConstants.{LAYOUT}
 use Rattle.gd_base.proofs.AnswerLemmas.Answer.{answer_full}
 use Rattle.gd_cabinet.specs.Answered.{syncs_of}
 use Rattle.gd_cabinet.specs.Opened.{OpenedAs, OnReady}
-use Rattle.gd_cabinet.specs.Opening.{opening_syncs, start_of, started}
+use Rattle.gd_cabinet.specs.Opening.{opening_syncs, start_of, view_started}
 use Rattle.gd_cabinet.specs.OpeningRuns.{RunsBy}
 use Rattle.gd_cabinet.specs.Shown.{shows}
-use Rattle.gd_cabinet.specs.Words.{cabinet_core}
-use Rattle.gd_cabinet.specs.declared.opened.CabinetOpened.{CabinetOpened}
+use Rattle.gd_cabinet.specs.Cabinet.{cabinet_core}
+use Rattle.gd_cabinet.specs.declared.opening.CabinetOpened.{CabinetOpened}
 use Rattle.gd_cabinet.proofs.Cutting.{starting, syncs_are}
 use Rattle.gd_cabinet.proofs.Showing.{told_maps, as_found}
 
@@ -42,7 +42,7 @@ reads_before_told r M N old mid new same seen was on first told =
 
 -- what the repair and the start make is so by the image
 pub by_image : {V : Type 0} (M : Machine V) (found : Found) (n : ℕ) (p : List ℕ) (v : V) (seen : Option (List ℕ)) (P : ℕ → Type 0) → IfTold seen (λ image. IsFound LAYOUT found image × (boots LAYOUT image ≡ Some (n, p)))
-    → ((image : List ℕ) → boots LAYOUT image ≡ Some (n, p) → shows M image ≡ Shows v) → P (syncs_of_repair (repaired found) + starting M v) → IfTold seen (λ image. P (opening_syncs M image))
+    → ((image : List ℕ) → boots LAYOUT image ≡ Some (n, p) → shows M image ≡ Shows v) → P (syncs_of_repair (repair_needed found) + starting M v) → IfTold seen (λ image. P (opening_syncs M image))
 by_image M found n p v seen P told show here =
     told_maps seen (λ image. IsFound LAYOUT found image × (boots LAYOUT image ≡ Some (n, p))) (λ image. P (opening_syncs M image)) (λ image is.
     subst P (syncs_are M found v image (as_found LAYOUT found image is.0) (show image is.1)) here) told
@@ -80,8 +80,8 @@ pub start_not_made : {V : Type 0} (M N : Machine V) (j : ℕ) (v : V) (old mid n
     → RunOf {T = Unit {0}} {E = Unit {0}} (j + starting M v) (Err tt) old new
 start_not_made M N j v old mid new same was on first rest = subst (λ K. RunOf {T = Unit {0}} {E = Unit {0}} (j + starting K v) (Err tt) old new) same (run_on j (starting N v) (Err tt) old mid new was on first rest)
 
-pub started_as : {V : Type 0} (M N : Machine V) (blocks : Blocks) (lap : ℕ) (u v : V) → N ≡ M → u ≡ started N blocks lap v → u ≡ started M blocks lap v
-started_as M N blocks lap u v same is = subst (λ K. u ≡ started K blocks lap v) same is
+pub started_as : {V : Type 0} (M N : Machine V) (blocks : Blocks) (lap : ℕ) (u v : V) → N ≡ M → u ≡ view_started N blocks lap v → u ≡ view_started M blocks lap v
+started_as M N blocks lap u v same is = subst (λ K. u ≡ view_started K blocks lap v) same is
 
 pub repair_at_most : (old new : DiskState) → RunOf {T = Unit {0}} {E = Unit {0}} 3 (Err tt) old new → RunOf {T = Unit {0}} {E = Unit {0}} 9 (Err tt) old new
 repair_at_most old new run = run_fails 3 9 tt (Err tt) old new refl (omega arith) run
@@ -98,13 +98,13 @@ no_room : {V : Type 0} (M : Machine V) (v : V) → is_full M v ≡ true → 2 ^ 
 no_room M v full = grind (arith, nat_tests, full)
 
 -- none is added where the history is full
-stays_full : {V : Type 0} (M : Machine V) (blocks : Blocks) (lap : ℕ) (v : V) → is_full M v ≡ true → started M blocks lap v ≡ v
+stays_full : {V : Type 0} (M : Machine V) (blocks : Blocks) (lap : ℕ) (v : V) → is_full M v ≡ true → view_started M blocks lap v ≡ v
 stays_full M blocks lap v full =
     let s = start_of M v in
     ap (λ a. after_answer M v s (draw_of M blocks lap v s.event) a) (answer_full M v s refl (no_room M v full))
 
-full_view : {V : Type 0} (M : Machine V) (blocks : Blocks) (lap : ℕ) (image : List ℕ) (u v w : V) → shows M image ≡ Shows w → u ≡ started M blocks lap w → shows M image ≡ Shows v → is_full M v ≡ true → u ≡ v
-full_view {V} M blocks lap image u v w is after shown full = after ∙ ap (started M blocks lap) (same_view w v (sym is ∙ shown)) ∙ stays_full M blocks lap v full
+full_view : {V : Type 0} (M : Machine V) (blocks : Blocks) (lap : ℕ) (image : List ℕ) (u v w : V) → shows M image ≡ Shows w → u ≡ view_started M blocks lap w → shows M image ≡ Shows v → is_full M v ≡ true → u ≡ v
+full_view {V} M blocks lap image u v w is after shown full = after ∙ ap (view_started M blocks lap) (same_view w v (sym is ∙ shown)) ∙ stays_full M blocks lap v full
   where
     same_view : (w v : V) → Shows w ≡ Shows v → w ≡ v
     same_view w v same = cc

@@ -4,7 +4,7 @@ use Rattle.gd_base.specs.Judging.Machine.{Machine}
 use Rattle.gd_base.specs.Payloads.Spelled.{Shows}
 use Rattle.gd_disk.specs.Disk.{IfTold}
 use Rattle.gd_cabinet.specs.Shown.{shows}
-use Rattle.gd_cabinet.specs.declared.opened.CabinetOpened.{CabinetOpened}
+use Rattle.gd_cabinet.specs.declared.opening.CabinetOpened.{CabinetOpened}
 
 -- At Locked and Differs it's as after a clear. At Off it's as it was handed in where no copy was read, and else it shows
 -- what the image shows that a read gave.

@@ -6,12 +6,12 @@ use Rattle.gd_base.specs.Payloads.Spelled.{Shows, Foreign, Unreadable}
 use Rattle.gd_store.specs.Copy.{boots, found_in}
 use Rattle.gd_store.specs.declared.copy.layout.TheConstants.{LAYOUT}
 use Rattle.gd_store.specs.declared.copy.states.Found.{Found}
-use Rattle.gd_cabinet.specs.Opening.{started}
+use Rattle.gd_cabinet.specs.Opening.{view_started}
 use Rattle.gd_cabinet.specs.Shown.{shows}
-use Rattle.gd_cabinet.specs.Words.{cabinet_core, cabinet_disk, cabinet_draws}
+use Rattle.gd_cabinet.specs.Cabinet.{cabinet_core, cabinet_disk, cabinet_draws}
 use Rattle.gd_cabinet.specs.declared.cabinet.Cabinet.{Cabinet}
-use Rattle.gd_cabinet.specs.declared.locked.Locked.{Locked}
-use Rattle.gd_cabinet.specs.declared.opened.CabinetOpened.{CabinetOpened}
+use Rattle.gd_cabinet.specs.declared.opening.Locked.{Locked}
+use Rattle.gd_cabinet.specs.declared.opening.CabinetOpened.{CabinetOpened}
 
 -- the disk, the core and the source of blocks that an answer gives back, in the cabinet or beside it
 abbrev pub disk_in : {C D W : Type 0} {g h i : _} → CabinetOpened C D W g h i → D
@@ -69,7 +69,7 @@ IsLocked M Locked.Unreadable image = (booted : ℕ × List ℕ) × (boots LAYOUT
 -- an answer about the image that a read gives: the states of its copies, and what it shows
 abbrev pub OpenedAs : {V C D W : Type 0} {g h i : _} → Machine V → (C → V) → Blocks → ℕ → CabinetOpened C D W g h i → List ℕ → Type 0
 OpenedAs M view blocks lap (CabinetOpened.Ready cabinet found) image =
-    (found ≡ found_in LAYOUT image) × ((v : _) × (shows M image ≡ Shows v) × (view (cabinet_core cabinet) ≡ started M blocks lap v))
+    (found ≡ found_in LAYOUT image) × ((v : _) × (shows M image ≡ Shows v) × (view (cabinet_core cabinet) ≡ view_started M blocks lap v))
 OpenedAs M view blocks lap (CabinetOpened.Locked why found parts) image = (found ≡ found_in LAYOUT image) × IsLocked M why image
 OpenedAs M view blocks lap (CabinetOpened.Differs kept found parts) image = (found ≡ found_in LAYOUT image) × (shows M image ≡ Foreign kept)
 OpenedAs M view blocks lap (CabinetOpened.Off found parts) image = IfSome found (λ f. f ≡ found_in LAYOUT image)

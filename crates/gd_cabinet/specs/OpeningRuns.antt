@@ -5,10 +5,10 @@ use Rattle.gd_base.specs.Payloads.Spelled.{Shows}
 use Rattle.gd_disk.specs.CutRuns.{IsCompleteRun, RunOf}
 use Rattle.gd_disk.specs.Disk.{DiskState, Answers, next_count}
 use Rattle.gd_store.specs.Reads.{HasReadFewer}
-use Rattle.gd_store.specs.Repair.{repaired, syncs_of_repair}
-use Rattle.gd_cabinet.specs.Opening.{started, start_syncs}
-use Rattle.gd_cabinet.specs.Words.{cabinet_core}
-use Rattle.gd_cabinet.specs.declared.opened.CabinetOpened.{CabinetOpened}
+use Rattle.gd_store.specs.Repair.{repair_needed, syncs_of_repair}
+use Rattle.gd_cabinet.specs.Opening.{view_started, start_syncs}
+use Rattle.gd_cabinet.specs.Cabinet.{cabinet_core}
+use Rattle.gd_cabinet.specs.declared.opening.CabinetOpened.{CabinetOpened}
 
 -- a run of this many syncs, which is whole at Ready; where the memory is shut, a whole one of none
 abbrev pub RunsBy : {C D W : Type 0} {g h i : _} → CabinetOpened C D W g h i → ℕ → DiskState → DiskState → Type 0
@@ -21,7 +21,7 @@ RunsBy (CabinetOpened.Off found parts) syncs old new = RunOf {T = Unit {0}} {E =
 -- was read, else at most those of one repair, or of that and a start.
 abbrev pub OpeningRun : {V C D W : Type 0} {g h i : _} → Machine V → (C → V) → Blocks → ℕ → CabinetOpened C D W g h i → DiskState → DiskState → Type 0
 OpeningRun M view blocks lap (CabinetOpened.Ready cabinet found) old new =
-    (v : _) × (view (cabinet_core cabinet) ≡ started M blocks lap v) × IsCompleteRun (syncs_of_repair (repaired found) + start_syncs M (Shows v)) old new
+    (v : _) × (view (cabinet_core cabinet) ≡ view_started M blocks lap v) × IsCompleteRun (syncs_of_repair (repair_needed found) + start_syncs M (Shows v)) old new
 OpeningRun M view blocks lap (CabinetOpened.Locked why found parts) old new = (syncs : ℕ) × (syncs ≤ 3) × IsCompleteRun syncs old new
 OpeningRun M view blocks lap (CabinetOpened.Differs kept found parts) old new = (syncs : ℕ) × (syncs ≤ 3) × IsCompleteRun syncs old new
 OpeningRun M view blocks lap (CabinetOpened.Off found parts) old new = RunOf {T = Unit {0}} {E = Unit {0}} 9 (Err tt) old new

@@ -4,8 +4,8 @@ use Rattle.gd_base.specs.Judging.Machine.{Machine}
 use Rattle.gd_base.specs.Payloads.LoadedView.{at_sequence}
 use Rattle.gd_base.specs.Payloads.Spelled.{load_answer}
 use Rattle.gd_base.specs.declared.step.Loaded.{Loaded}
-use Rattle.gd_cabinet.specs.declared.locked.Locked.{Locked}
-use Rattle.gd_cabinet.specs.declared.opened.CabinetOpened.{CabinetOpened}
+use Rattle.gd_cabinet.specs.declared.opening.Locked.{Locked}
+use Rattle.gd_cabinet.specs.declared.opening.CabinetOpened.{CabinetOpened}
 
 -- what loading what is booted answers, its count held against its sequence; nothing where none is booted
 abbrev pub loading : {V : Type 0} → Machine V → Option (ℕ × List ℕ) → Option Loaded

@@ -1,4 +1,4 @@
-// What no clause says: that the calls succeed, and at which calls of the disk they fail. The core only counts.
+//! What no clause says: that the calls succeed, and at which calls of the disk they fail. The core only counts.
 ghost use Rattle.std.specs.Prelude.{◌≡◌, ◌≢◌, ◌+◌, ◌-◌, ◌≤◌, ◌^◌, ◌==◌, nat_le, if◌then◌else◌, ℕ, [], take, replicate, refl, false, IfOk, OnOk};
 ghost use Rattle.std.specs.Coded.{coded_ℕ};
 ghost use Rattle.std.specs.Int.{w64, from_be_bytes};
@@ -19,7 +19,7 @@ use std::alloc::Global;
 use std::process::Abort;
 use std::test::Fail;
 
-// The number of entries, which is the last number of each device too. A payload begins with it.
+/// The number of entries, which is the last number of each device too. A payload begins with it.
 #[derive(Drop)]
 struct Tally {
     count: u64,
@@ -54,8 +54,7 @@ impl Core for Tally {
 
     ghost view = { λ t. t.count };
 
-    fn needs_draw(&self, e: &Numbered) -> bool {
-        let _e = e;
+    fn needs_draw(&self, _e: &Numbered) -> bool {
         false
     }
 
@@ -64,8 +63,7 @@ impl Core for Tally {
     }
 
     #[tactic(auto, unfolding(gd_base::specs::Answer::answer))]
-    fn step(&mut self, e: &Numbered, draw: Option<(u64, Block)>) -> Stepped {
-        let _draw = draw;
+    fn step(&mut self, e: &Numbered, _draw: Option<(u64, Block)>) -> Stepped {
         if self.count != 0 && e.number == self.count {
             return Stepped::Again(Reply::Taken);
         }
@@ -109,8 +107,7 @@ impl Core for Tally {
         self.count
     }
 
-    fn last(&self, device: Device) -> u64 {
-        let _device = device;
+    fn last(&self, _device: Device) -> u64 {
         self.count
     }
 
@@ -118,15 +115,14 @@ impl Core for Tally {
         0
     }
 
-    fn show(&self, what: What, into: &mut Text) {
-        let _what = what;
+    fn show(&self, _what: What, into: &mut Text) {
         into.clear();
     }
 }
 
 type Tallied<D> = Parts<Tally, D, ListDraws>;
 
-// A memory of this count at sequence 0.
+/// A memory of this count at sequence 0.
 fn made<D: Disk + Drop>(
     rt: &impl Abort,
     alloc: Global,
@@ -157,7 +153,7 @@ fn opened<D: Disk + Drop>(rt: &impl Abort, parts: Tallied<D>) -> CabinetOpened<T
     Cabinet::open(parts, 0)
 }
 
-// A cabinet with this count after its start, over copies that were found so.
+/// A cabinet with this count after its start, over copies that were found so.
 fn ready<D: Disk + Drop>(
     rt: &impl Abort,
     parts: Tallied<D>,
@@ -220,8 +216,8 @@ fn keeps_events(rt: HostRuntime) -> Result<(), Fail> {
     keeps(&rt, rt.alloc(), MemoryLab::new(rt.alloc(), DISK_LEN)?)
 }
 
-// What a memory made by 11 calls of the disk does whose disk fails at this call after them. An opening makes four reads, and
-// a commit six writes and six syncs.
+/// What a memory made by 11 calls of the disk does whose disk fails at this call after them. An opening makes four reads, and
+/// a commit six writes and six syncs.
 fn fails_at<D: Disk + Drop>(
     rt: &impl Abort,
     alloc: Global,
@@ -307,7 +303,7 @@ fn turned_on<L: LabDisk>(rt: &impl Abort, lab: &mut L) -> Result<(), Fail>
     Ok(lab.power_on()?)
 }
 
-// A memory of count 0 whose disk was turned on with a cut armed.
+/// A memory of count 0 whose disk was turned on with a cut armed.
 fn armed<L: LabDisk + Drop>(
     rt: &impl Abort,
     alloc: Global,
@@ -333,7 +329,7 @@ fn on_again<L: LabDisk + Drop>(rt: &impl Abort, parts: Tallied<L>) -> Result<Tal
     Ok(parts)
 }
 
-// The start has six syncs, so that the cut comes at the third of the bill, which opens copy a.
+/// The start has six syncs, so that the cut comes at the third of the bill, which opens copy a.
 fn cut_between_copies<L: LabDisk + Drop>(
     rt: &impl Abort,
     alloc: Global,
@@ -360,7 +356,7 @@ fn a_cut_between_the_copies(rt: HostRuntime) -> Result<(), Fail> {
     cut_between_copies(&rt, rt.alloc(), MemoryLab::new(rt.alloc(), DISK_LEN)?)
 }
 
-// How many entries an opening shows, its start among them.
+/// How many entries an opening shows, its start among them.
 fn shown<D: Disk + Drop>(rt: &impl Abort, parts: Tallied<D>) -> Result<u64, Fail>
     requires { IsOpenable (D.state parts.disk) }
 {
@@ -370,7 +366,7 @@ fn shown<D: Disk + Drop>(rt: &impl Abort, parts: Tallied<D>) -> Result<u64, Fail
     }
 }
 
-// An opening and a bill, of which a call to the disk fails; and whether that was in the opening.
+/// An opening and a bill, of which a call to the disk fails; and whether that was in the opening.
 fn interrupted<L: LabDisk + Drop>(
     rt: &impl Abort,
     parts: Tallied<L>,
@@ -389,7 +385,7 @@ fn interrupted<L: LabDisk + Drop>(
     }
 }
 
-// What stands shows the view before the event, or that with it.
+/// What stands shows the view before the event, or that with it.
 fn leaves_either<L: LabDisk + Drop>(
     rt: &impl Abort,
     parts: Tallied<L>,
@@ -408,7 +404,7 @@ fn leaves_either<L: LabDisk + Drop>(
     Ok(())
 }
 
-// The start makes six writes and six syncs, and so does the bill.
+/// The start makes six writes and six syncs, and so does the bill.
 fn is_cut_at<L: LabDisk + Drop>(
     rt: &impl Abort,
     alloc: Global,
@@ -431,7 +427,7 @@ fn each_cut_leaves_one_of_two_views(rt: HostRuntime) -> Result<(), Fail> {
     Ok(())
 }
 
-// The memory is made by 11 calls, and the opening begins with four reads.
+/// The memory is made by 11 calls, and the opening begins with four reads.
 fn is_faulty_at<L: LabDisk + Drop>(
     rt: &impl Abort,
     alloc: Global,
@@ -450,7 +446,7 @@ fn each_fault_leaves_one_of_two_views(rt: HostRuntime) -> Result<(), Fail> {
     Ok(())
 }
 
-// A cut that is armed while the cabinet is open comes in its next event.
+/// A cut that is armed while the cabinet is open comes in its next event.
 #[test]
 fn a_cut_armed_in_an_open_cabinet(rt: HostRuntime) -> Result<(), Fail> {
     let lab = MemoryLab::new(rt.alloc(), DISK_LEN)?;
@@ -463,7 +459,7 @@ fn a_cut_armed_in_an_open_cabinet(rt: HostRuntime) -> Result<(), Fail> {
     Ok(())
 }
 
-// What any core writes it loads, and what spells no view it doesn't.
+/// What any core writes it loads, and what spells no view it doesn't.
 fn loads_what_it_writes<C: Core>(core: &mut C, none: &[u8; PAYLOAD_LEN]) -> bool {
     let mut image = [0; PAYLOAD_LEN];
     core.write_image(&mut image);

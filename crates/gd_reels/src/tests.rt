@@ -1,6 +1,8 @@
 //! What no clause says: that the tables of the built-in setup are those of docs/FORMATS.md, and what some blocks show
 //! and win under them.
 
+ghost use Rattle.std.specs.Prelude.{◌<◌};
+
 use crate::{Window, line_pay, prize, scatter_count, window};
 use gd_base::{Block, PRIZES, REEL_PAYS, STRIPS, Setup};
 use std::process::Abort;

@@ -3,7 +3,7 @@ use Rattle.std.proofs.Common.{◌≡◌, ◌⊎◌, inr, ℕ, ◌*◌, ◌^◌, 
 use Rattle.gd_disk.specs.Disk.{DiskState, IfTold, IsSynced, with_bytes, seen_with_bytes}
 use Rattle.gd_disk.specs.Runs.{LeavesOnly}
 use Rattle.gd_disk.proofs.Runs.{weaker, and_then}
-use Rattle.gd_store.specs.Copy.{sealed, body_of, boots, HoldsBoth, LiesWithin}
+use Rattle.gd_store.specs.Copy.{sealed_copy, body_of, boots, HoldsBoth, LiesWithin}
 use Rattle.gd_store.specs.Writing.{IsWriting, IsCommitting, From}
 use Rattle.gd_store.proofs.CopyMoments.{told}
 use Rattle.gd_store.proofs.Boots.{carries, Holds, told_maps, open_a, open_b, boots_a, boots_b, order_a, order_b, written_a, written_b}
@@ -18,11 +18,11 @@ told_written None at bytes P Q from fact = fact
 told_written (Some d) at bytes P Q from fact = from d refl fact
 
 -- an open copy is a gate and what stands behind it
-pub opened : (l : Layout) (n : ℕ) (q body : List ℕ) → body ≡ body_of l n q → 0xA5 ∷ body ≡ sealed l n q
-unfolding sealed
+pub opened : (l : Layout) (n : ℕ) (q body : List ℕ) → body ≡ body_of l n q → 0xA5 ∷ body ≡ sealed_copy l n q
+unfolding sealed_copy
 opened l n q body is = ap (λ (b : List ℕ). 0xA5 ∷ b) is
 
-module _ (l : Layout) (m n : ℕ) (p q copy : List ℕ) (later : m < n) (range : n < 2 ^ 64) (long_p : length p ≡ PAGE_LEN * l.pages) (long_q : length q ≡ PAGE_LEN * l.pages) (is_copy : copy ≡ sealed l n q) (old s1 : DiskState) (fits : LiesWithin l old.size) (synced : IsSynced old) (holds : IfTold old.seen (HoldsBoth l m p)) where
+module _ (l : Layout) (m n : ℕ) (p q copy : List ℕ) (later : m < n) (range : n < 2 ^ 64) (long_p : length p ≡ PAGE_LEN * l.pages) (long_q : length q ≡ PAGE_LEN * l.pages) (is_copy : copy ≡ sealed_copy l n q) (old s1 : DiskState) (fits : LiesWithin l old.size) (synced : IsSynced old) (holds : IfTold old.seen (HoldsBoth l m p)) where
   abbrev pub Either : List ℕ → Type 0
   Either c = (boots l c ≡ Some (m, p)) ⊎ (boots l c ≡ Some (n, q))
 

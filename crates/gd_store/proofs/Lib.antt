@@ -1,16 +1,16 @@
-pub mod Boots
-pub mod Commit
-pub mod CopyMoments
-pub mod Images
-pub mod Openings
-pub mod Pages
-pub mod Parts
-pub mod RepairMoments
-pub mod Assembled
+mod Boots
+mod Commit
+mod CopyMoments
+mod Images
+mod Openings
+mod Pages
+mod Parts
+mod RepairMoments
+mod Assembled
 pub mod RunLemmas
 pub mod Sealed
-pub mod Makings
-pub mod MakingBoots
-pub mod Lent
-pub mod MakingMoments
-pub mod AnyMakings
+mod Makings
+mod MakingBoots
+mod Lent
+mod MakingMoments
+mod AnyMakings

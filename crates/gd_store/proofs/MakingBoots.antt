@@ -3,7 +3,7 @@ use Rattle.std.proofs.Common.{◌≡◌, inl, inr, ⊎_elim, ℕ, List, refl, sy
 use Rattle.gd_disk.specs.Disk.{DiskState}
 use Rattle.gd_disk.specs.Runs.{LeavesOnly}
 use Rattle.gd_disk.proofs.Runs.{weaker}
-use Rattle.gd_store.specs.Copy.{copy_len, state_of, stored_payload, copy_a, copy_b, chosen, boots, is_sound}
+use Rattle.gd_store.specs.Copy.{copy_len, state_of, stored_payload, copy_a, copy_b, latest_copy, boots, is_sound}
 use Rattle.gd_store.specs.Making.{IsMaking, BootsOver}
 use Rattle.gd_store.specs.Writing.{IsShut, From}
 use Rattle.gd_store.specs.declared.copy.layout.Layout.{Layout}
@@ -20,7 +20,7 @@ bad_b : (l : Layout) (c : List ℕ) → IsShut l.b c → is_sound (state_of l (c
 bad_b l c shut = ap is_sound (shut_state l (copy_b l c) (λ is_open. shut (sym (first_of l.b (copy_len l.pages) c (omega arith)) ∙ is_open)))
 
 -- beside a bad copy a sound one is booted
-chosen_one : (n : ℕ) (p q : List ℕ) (t : CopyState) → is_sound t ≡ false → chosen (Sound n) t p q ≡ Some (n, p)
+chosen_one : (n : ℕ) (p q : List ℕ) (t : CopyState) → is_sound t ≡ false → latest_copy (Sound n) t p q ≡ Some (n, p)
 chosen_one n p q (Sound m) bad = absurd (cc bad)
 chosen_one n p q (Bad why) bad = refl
 

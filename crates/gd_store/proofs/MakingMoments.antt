@@ -5,7 +5,7 @@ use Rattle.gd_disk.specs.Disk.{DiskState, IfTold, IsSynced, Loses, Unchanged, wi
 use Rattle.gd_disk.specs.Runs.{LeavesOnly}
 use Rattle.gd_disk.proofs.Runs.{and_then, at_end, goes_on, weaker}
 use Rattle.gd_disk.proofs.Written.{byte_before, byte_behind, torn_refl, torn-written}
-use Rattle.gd_store.specs.Copy.{part, copy_len, sealed, IsCopy, LiesWithin, copy_a, copy_b}
+use Rattle.gd_store.specs.Copy.{part, copy_len, sealed_copy, IsCopy, LiesWithin, copy_a, copy_b}
 use Rattle.gd_store.specs.Making.{AreShutting, IsMakingA, IsMakingB}
 use Rattle.gd_store.specs.Writing.{AreShut, From, IsOverOpen, IsShut, IsWriting, seen_shut}
 use Rattle.gd_store.specs.declared.copy.layout.Layout.{Layout}
@@ -99,7 +99,7 @@ module _ (l : Layout) (old : DiskState) (within : LiesWithin l old.size) (synced
             (told old (λ image. get_or image l.a 0 ≡ gate_a) back.0 synced back.1 is_a) (told old (λ image. get_or image l.b 0 ≡ gate_b) back.0 synced back.1 is_b) back.2 from.2,
       ))
 
-module _ (l : Layout) (p copy : List ℕ) (long : length p ≡ PAGE_LEN * l.pages) (is_copy : copy ≡ sealed l 0 p) (apart : l.a + copy_len l.pages ≤ l.b) where
+module _ (l : Layout) (p copy : List ℕ) (long : length p ≡ PAGE_LEN * l.pages) (is_copy : copy ≡ sealed_copy l 0 p) (apart : l.a + copy_len l.pages ≤ l.b) where
   zero_range : 0 < 2 ^ 64
   zero_range = omega arith
 

@@ -6,7 +6,7 @@ use Rattle.gd_disk.specs.declared.disk.CutUnit.{CutUnit}
 use Rattle.gd_disk.specs.declared.disk.CutUnit.TheVariants.{Call, Sync}
 use Rattle.gd_disk.specs.declared.disk.ArmedCut.{ArmedCut}
 use Rattle.gd_disk.proofs.Cuts.{after_write, no_call}
-use Rattle.gd_store.specs.Copy.{sealed, IsCopy, HoldsBoth, LiesWithin, copy_a}
+use Rattle.gd_store.specs.Copy.{sealed_copy, IsCopy, HoldsBoth, LiesWithin, copy_a}
 use Rattle.gd_store.specs.declared.copy.layout.Layout.{Layout}
 use Rattle.gd_store.proofs.Boots.{carries, written_a, written_b}
 use Rattle.gd_store.proofs.Commit.{told_written}
@@ -14,7 +14,7 @@ use Rattle.gd_store.proofs.Openings.{told_all}
 use Rattle.gd_disk.specs.declared.lengths.TheConstants.{PAGE_LEN}
 
 -- what a read gives after both copies are written
-module _ (l : Layout) (n : ℕ) (p copy : List ℕ) (range : n < 2 ^ 64) (long : length p ≡ PAGE_LEN * l.pages) (is_copy : copy ≡ sealed l n p) (s1 s2 s3 : DiskState) (within : LiesWithin l s1.size) (size : s2.size ≡ s1.size) where
+module _ (l : Layout) (n : ℕ) (p copy : List ℕ) (range : n < 2 ^ 64) (long : length p ≡ PAGE_LEN * l.pages) (is_copy : copy ≡ sealed_copy l n p) (s1 s2 s3 : DiskState) (within : LiesWithin l s1.size) (size : s2.size ≡ s1.size) where
   first : s2.seen ≡ seen_with_bytes l.a copy s1.seen → IfTold s2.seen (λ c. IsCopy l n p (copy_a l c))
   first seen = subst (λ (s : Option (List ℕ)). IfTold s (λ c. IsCopy l n p (copy_a l c))) (sym seen) (told_written s1.seen l.a copy (λ c. Unit {0}) (λ c. IsCopy l n p (copy_a l c)) (λ d is none.
       let whole : length d ≡ s1.size = s1.whole d is in

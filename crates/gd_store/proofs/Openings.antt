@@ -8,7 +8,7 @@ use Rattle.gd_store.proofs.Boots.{told_maps}
 use Rattle.gd_store.specs.Booting.{IsFound}
 use Rattle.gd_store.specs.Copy.{found_in}
 use Rattle.gd_store.specs.Opening.{repairs_of}
-use Rattle.gd_store.specs.Repair.{Repair, NoRepair, RepairA, RepairB, repaired, syncs_of_repair}
+use Rattle.gd_store.specs.Repair.{Repair, NoRepair, RepairA, RepairB, repair_needed, syncs_of_repair}
 use Rattle.gd_store.specs.declared.copy.states.Found.{Found}
 use Rattle.gd_store.specs.Copy.{boots}
 use Rattle.gd_store.specs.Opened.{IsOpenable}
@@ -41,10 +41,10 @@ told_all None P all = tt
 told_all (Some c) P all = all c
 
 -- what is told of an image by what was found of it is so by the image
-pub by_found : (l : Layout) (old : DiskState) (found : Found) (n : ℕ) (p : List ℕ) (P : ℕ → Type 0) → IfTold old.seen (λ image. IsFound l found image × (boots l image ≡ Some (n, p))) → P (syncs_of_repair (repaired found)) → IfTold old.seen (λ image. P (repairs_of l image))
+pub by_found : (l : Layout) (old : DiskState) (found : Found) (n : ℕ) (p : List ℕ) (P : ℕ → Type 0) → IfTold old.seen (λ image. IsFound l found image × (boots l image ≡ Some (n, p))) → P (syncs_of_repair (repair_needed found)) → IfTold old.seen (λ image. P (repairs_of l image))
 by_found l old found n p P told here = told_maps old.seen _ _ (λ image seen is.
     let same : found ≡ found_in l image = λ i. record { a = is.0.0 i; b = is.0.1 i } in
-    subst (λ (f : Found). P (syncs_of_repair (repaired f))) same here) told
+    subst (λ (f : Found). P (syncs_of_repair (repair_needed f))) same here) told
 
 -- a repair has at most three syncs
 pub few_syncs : (r : Repair) → syncs_of_repair r ≤ 3

@@ -3,7 +3,7 @@ use Rattle.std.proofs.Common.{◌≡◌, ℕ, ◌+◌, ◌*◌, ◌^◌, ◌<◌
 use Rattle.gd_disk.specs.Disk.{DiskState, IfTold, IsSynced, with_bytes, seen_with_bytes}
 use Rattle.gd_disk.specs.Runs.{LeavesOnly}
 use Rattle.gd_disk.proofs.Runs.{weaker}
-use Rattle.gd_store.specs.Copy.{sealed, boots, copy_len, copy_at, gate_at, IsCopy, HoldsBoth, LiesWithin}
+use Rattle.gd_store.specs.Copy.{sealed_copy, boots, copy_len, copy_at, gate_at, IsCopy, HoldsBoth, LiesWithin}
 use Rattle.gd_store.specs.Writing.{IsWriting, From, KeepsBoot}
 use Rattle.gd_store.specs.Repair.{other_side}
 use Rattle.gd_disk.specs.declared.side.Side.{Side}
@@ -18,12 +18,12 @@ pub side_within : (l : Layout) (side : Side) (at size body : ℕ) → LiesWithin
 side_within l Side.A at size body within is long = omega (arith, within.apart, within.within, is, long)
 side_within l Side.B at size body within is long = omega (arith, within.within, is, long)
 
-module _ (l : Layout) (n : ℕ) (q copy : List ℕ) (range : n < 2 ^ 64) (long_q : length q ≡ PAGE_LEN * l.pages) (is_copy : copy ≡ sealed l n q) (old new : DiskState) (fits : LiesWithin l old.size) (synced : IsSynced old) where
+module _ (l : Layout) (n : ℕ) (q copy : List ℕ) (range : n < 2 ^ 64) (long_q : length q ≡ PAGE_LEN * l.pages) (is_copy : copy ≡ sealed_copy l n q) (old new : DiskState) (fits : LiesWithin l old.size) (synced : IsSynced old) where
   -- one copy is written, and the other one is booted
   abbrev pub IsBootedBeside : Side → List ℕ → Type 0
   IsBootedBeside side image = IsCopy l n q (copy_at l (other_side side) image) × (boots l image ≡ Some (n, q))
 
-  keeps : (side : Side) (d c : List ℕ) → IsBootedBeside side d → IsWriting (gate_at l side) (sealed l n q) d c → boots l c ≡ Some (n, q)
+  keeps : (side : Side) (d c : List ℕ) → IsBootedBeside side d → IsWriting (gate_at l side) (sealed_copy l n q) d c → boots l c ≡ Some (n, q)
   keeps Side.A d c here w = repair_a l n q range long_q fits.apart d c here.0 here.1 w
   keeps Side.B d c here w = repair_b l n q range long_q fits.apart d c here.0 here.1 w
 
@@ -33,7 +33,7 @@ module _ (l : Layout) (n : ℕ) (q copy : List ℕ) (range : n < 2 ^ 64) (long_q
       let writing = subst (λ (x : List ℕ). IsWriting (gate_at l side) x from.0 c) is_copy (subst (λ (k : ℕ). IsWriting k copy from.0 c) is from.2) in
       (from.0, from.1, keeps side from.0 c here writing ∙ sym here.1))
 
-  over : (side : Side) (d : List ℕ) → l.b + copy_len l.pages ≤ length d → IsBootedBeside side d → HoldsBoth l n q (with_bytes (gate_at l side) (sealed l n q) d)
+  over : (side : Side) (d : List ℕ) → l.b + copy_len l.pages ≤ length d → IsBootedBeside side d → HoldsBoth l n q (with_bytes (gate_at l side) (sealed_copy l n q) d)
   over Side.A d long here = let w = written_a l n q range long_q fits.apart d long in (w.0, carries l n q _ _ w.1 here.0)
   over Side.B d long here = let w = written_b l n q range long_q fits.apart d long in (carries l n q _ _ w.0 here.0, w.1)
 

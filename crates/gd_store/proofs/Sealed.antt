@@ -1,4 +1,4 @@
--- A sealed copy is sound, and spells its payload.
+-- For callers: equal bytes are found equal. A sealed copy is sound, and spells its payload.
 use Rattle.std.proofs.Common.{◌≡◌, inl, inr, ℕ, zero, suc, ◌+◌, ◌*◌, ◌^◌, ◌<◌, ◌≤◌, List, ◌++◌, length, get_or, refl, sym, ◌∙◌, ap, subst, arith, true, None, length-append, nat_eq}
 use Rattle.std.proofs.lemmas.Bool.{cases_eq}
 use Rattle.std.proofs.lemmas.Nat.{from_be_bytes-to_be_bytes_8}
@@ -7,7 +7,7 @@ use Rattle.std.specs.Str.{bytes_eq}
 use Rattle.sha2.specs.Sha256.{sha256}
 use Rattle.sha2.proofs.Facts256.{length-sha256}
 use Rattle.std.proofs.lemmas.Slice.Eq.{bytes_eq-Decides}
-use Rattle.gd_store.specs.Copy.{part, copy_len, header_start, page, digests, head_of, sealed, body_of, state_of, page_matches, lowest_bad, stored_sequence, stored_head, stored_seal, stored_payload, stored_digest}
+use Rattle.gd_store.specs.Copy.{part, copy_len, header_start, page, digests, head_of, sealed_copy, body_of, state_of, page_matches, lowest_bad, stored_sequence, stored_head, stored_seal, stored_payload, stored_digest}
 use Rattle.gd_store.proofs.Parts.{part_front, part_part, part_last, length-copy, part_start, part_number, part_head, part_digs, part_seal, part_payload}
 use Rattle.gd_store.specs.declared.copy.layout.Layout.{Layout}
 use Rattle.gd_store.specs.declared.copy.states.CopyState.TheVariants.{Sound}
@@ -44,43 +44,43 @@ module _ (l : Layout) (sequence : ℕ) (payload : List ℕ) (range : sequence < 
   abbrev seal : List ℕ
   seal = sha256 (header_start l ++ to_be_bytes w64 sequence ++ digests l.pages payload)
 
-  pub length-sealed : length (sealed l sequence payload) ≡ copy_len l.pages
-  unfolding sealed body_of head_of
+  pub length-sealed : length (sealed_copy l sequence payload) ≡ copy_len l.pages
+  unfolding sealed_copy body_of head_of
   length-sealed = length-copy (header_start l) (to_be_bytes w64 sequence) digs seal payload l.pages (length-start l) refl (length-digests l.pages payload) (length-sha256 _) long
 
-  pub sealed_payload : stored_payload l (sealed l sequence payload) ≡ payload
-  unfolding sealed body_of head_of stored_payload
+  pub sealed_payload : stored_payload l (sealed_copy l sequence payload) ≡ payload
+  unfolding sealed_copy body_of head_of stored_payload
   sealed_payload = part_payload (header_start l) (to_be_bytes w64 sequence) digs seal payload l.pages (length-start l) refl (length-digests l.pages payload) (length-sha256 _) long
 
-  kept : (i : ℕ) → i < l.pages → part (DIGESTS_AT + DIGEST_LEN * i) DIGEST_LEN (sealed l sequence payload) ≡ sha256 (page i payload)
-  unfolding sealed body_of head_of
+  kept : (i : ℕ) → i < l.pages → part (DIGESTS_AT + DIGEST_LEN * i) DIGEST_LEN (sealed_copy l sequence payload) ≡ sha256 (page i payload)
+  unfolding sealed_copy body_of head_of
   kept i lt = sym (part_part DIGESTS_AT (DIGEST_LEN * l.pages) (DIGEST_LEN * i) DIGEST_LEN _ (omega arith)) ∙ ap (λ (x : List ℕ). part (DIGEST_LEN * i) DIGEST_LEN x) (part_digs (header_start l) (to_be_bytes w64 sequence) digs seal payload l.pages (length-start l) refl (length-digests l.pages payload) (length-sha256 _) long) ∙ digest_at l.pages i payload lt
 
-  page_ok : (i : ℕ) → i < l.pages → page_matches l (sealed l sequence payload) i ≡ true
+  page_ok : (i : ℕ) → i < l.pages → page_matches l (sealed_copy l sequence payload) i ≡ true
   unfolding page_matches stored_digest
   page_ok i lt = same_bytes _ _ (ap (λ (x : List ℕ). sha256 (page i x)) sealed_payload ∙ sym (kept i lt))
 
-  none_bad : (i n : ℕ) → i + n ≤ l.pages → lowest_bad l (sealed l sequence payload) i n ≡ None
+  none_bad : (i n : ℕ) → i + n ≤ l.pages → lowest_bad l (sealed_copy l sequence payload) i n ≡ None
   unfolding lowest_bad
   none_bad i zero le = refl
   none_bad i (suc n) le = rw (page_ok i (omega (arith, le))) (none_bad (i + 1) n (omega (arith, le)))
 
-  gate_open : nat_eq (get_or (sealed l sequence payload) 0 0) 0xA5 ≡ true
-  unfolding sealed
+  gate_open : nat_eq (get_or (sealed_copy l sequence payload) 0 0) 0xA5 ≡ true
+  unfolding sealed_copy
   gate_open = refl
 
-  start_same : bytes_eq (part 1 8 (sealed l sequence payload)) (header_start l) ≡ true
-  unfolding sealed body_of head_of
+  start_same : bytes_eq (part 1 8 (sealed_copy l sequence payload)) (header_start l) ≡ true
+  unfolding sealed_copy body_of head_of
   start_same = same_bytes _ _ (part_start (header_start l) (to_be_bytes w64 sequence) digs seal payload l.pages (length-start l) refl (length-digests l.pages payload) (length-sha256 _) long)
 
-  seal_same : bytes_eq (sha256 (stored_head l (sealed l sequence payload))) (stored_seal l (sealed l sequence payload)) ≡ true
-  unfolding sealed body_of head_of stored_head stored_seal
+  seal_same : bytes_eq (sha256 (stored_head l (sealed_copy l sequence payload))) (stored_seal l (sealed_copy l sequence payload)) ≡ true
+  unfolding sealed_copy body_of head_of stored_head stored_seal
   seal_same = same_bytes _ _ (ap sha256 (part_head (header_start l) (to_be_bytes w64 sequence) digs seal payload l.pages (length-start l) refl (length-digests l.pages payload) (length-sha256 _) long) ∙ sym (part_seal (header_start l) (to_be_bytes w64 sequence) digs seal payload l.pages (length-start l) refl (length-digests l.pages payload) (length-sha256 _) long))
 
-  number_same : stored_sequence (sealed l sequence payload) ≡ sequence
-  unfolding sealed body_of head_of stored_sequence
+  number_same : stored_sequence (sealed_copy l sequence payload) ≡ sequence
+  unfolding sealed_copy body_of head_of stored_sequence
   number_same = ap (λ (x : List ℕ). from_be_bytes w64 x) (part_number (header_start l) (to_be_bytes w64 sequence) digs seal payload l.pages (length-start l) refl (length-digests l.pages payload) (length-sha256 _) long) ∙ from_be_bytes-to_be_bytes_8 sequence range
 
-  pub sealed_sound : state_of l (sealed l sequence payload) ≡ Sound sequence
+  pub sealed_sound : state_of l (sealed_copy l sequence payload) ≡ Sound sequence
   unfolding state_of
   sealed_sound = rw (gate_open, start_same, seal_same, none_bad 0 l.pages (omega arith), number_same)

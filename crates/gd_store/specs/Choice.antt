@@ -4,7 +4,7 @@ use Rattle.gd_store.specs.declared.booting.Choice.{Choice}
 use Rattle.gd_store.specs.declared.booting.Choice.TheVariants.{CopyA, CopyB, Lost}
 
 -- the sequence and the payload that a choice means, of two copies with these payloads
-abbrev pub spelled : Choice → List ℕ → List ℕ → Option (ℕ × List ℕ)
-spelled (CopyA m) p q = Some (m, p)
-spelled (CopyB n) p q = Some (n, q)
-spelled Lost p q = None
+abbrev pub choice_meaning : Choice → List ℕ → List ℕ → Option (ℕ × List ℕ)
+choice_meaning (CopyA m) p q = Some (m, p)
+choice_meaning (CopyB n) p q = Some (n, q)
+choice_meaning Lost p q = None

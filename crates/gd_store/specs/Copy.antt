@@ -10,6 +10,7 @@ use Rattle.gd_store.specs.declared.copy.states.CopyState.{CopyState}
 use Rattle.gd_store.specs.declared.copy.states.CopyState.TheVariants.{Sound, Bad}
 use Rattle.gd_disk.specs.declared.side.Side.{Side}
 use Rattle.gd_disk.specs.declared.lengths.TheConstants.{DIGEST_LEN, DIGESTS_AT, FRAME_LEN, HEADER_LEN, PAGE_LEN}
+use Rattle.gd_store.specs.declared.copy.layout.TheConstants.{OPEN}
 
 -- n bytes of a list from a place on
 abbrev pub part : ℕ → ℕ → List ℕ → List ℕ
@@ -41,8 +42,8 @@ unfoldable pub body_of : Layout → ℕ → List ℕ → List ℕ
 body_of l sequence payload = head_of l sequence payload ++ sha256 (head_of l sequence payload) ++ payload
 
 -- the open copy of a payload at a sequence, as it's written
-unfoldable pub sealed : Layout → ℕ → List ℕ → List ℕ
-sealed l sequence payload = 0xA5 ∷ body_of l sequence payload
+unfoldable pub sealed_copy : Layout → ℕ → List ℕ → List ℕ
+sealed_copy l sequence payload = OPEN ∷ body_of l sequence payload
 
 -- ---- any bytes read as a copy
 
@@ -83,7 +84,7 @@ pages_state sequence (Some i) = Bad (BadPage i)
 -- sound, or the first of shut, header, root and page that applies
 unfoldable pub state_of : Layout → List ℕ → CopyState
 state_of l copy =
-    if slice_index copy 0 == 0xA5 then
+    if slice_index copy 0 == OPEN then
     (if bytes_eq (part 1 8 copy) (header_start l) then
     (if bytes_eq (sha256 (stored_head l copy)) (stored_seal l copy) then
     pages_state (stored_sequence copy) (lowest_bad l copy 0 l.pages)
@@ -109,15 +110,15 @@ copy_at l Side.B image = copy_b l image
 
 -- of two copies with these states and payloads, sequence and payload of the sound one with the later sequence; none where
 -- no copy is sound, or both are with one sequence and different payloads
-abbrev pub chosen : CopyState → CopyState → List ℕ → List ℕ → Option (ℕ × List ℕ)
-chosen (Sound m) (Sound n) p q = if nat_lt m n then Some (n, q) else (if nat_lt n m then Some (m, p) else (if bytes_eq p q then Some (m, p) else None))
-chosen (Sound m) (Bad why) p q = Some (m, p)
-chosen (Bad why) (Sound n) p q = Some (n, q)
-chosen (Bad why) (Bad other) p q = None
+abbrev pub latest_copy : CopyState → CopyState → List ℕ → List ℕ → Option (ℕ × List ℕ)
+latest_copy (Sound m) (Sound n) p q = if nat_lt m n then Some (n, q) else (if nat_lt n m then Some (m, p) else (if bytes_eq p q then Some (m, p) else None))
+latest_copy (Sound m) (Bad why) p q = Some (m, p)
+latest_copy (Bad why) (Sound n) p q = Some (n, q)
+latest_copy (Bad why) (Bad other) p q = None
 
 -- what an image boots to
 abbrev pub boots : Layout → List ℕ → Option (ℕ × List ℕ)
-boots l image = chosen (state_of l (copy_a l image)) (state_of l (copy_b l image)) (stored_payload l (copy_a l image)) (stored_payload l (copy_b l image))
+boots l image = latest_copy (state_of l (copy_a l image)) (state_of l (copy_b l image)) (stored_payload l (copy_a l image)) (stored_payload l (copy_b l image))
 
 -- a copy is sound at this sequence, with this payload
 abbrev pub IsCopy : Layout → ℕ → List ℕ → List ℕ → Type 0

@@ -5,6 +5,7 @@ use Rattle.gd_store.specs.Writing.{IsShut}
 use Rattle.gd_store.specs.declared.copy.layout.Layout.{Layout}
 use Rattle.gd_store.specs.declared.room.Room.{Room}
 use Rattle.gd_store.specs.declared.making.Made.{Made}
+use Rattle.gd_store.specs.declared.copy.layout.TheConstants.{OPEN}
 
 -- the disk and the room that an answer holds
 abbrev pub made_disk : {D : Type 0} → Made D → D
@@ -27,11 +28,11 @@ pub record AreShutting (l : Layout) (old new : List ℕ) : Type 0 where
 
 -- what a read gives of a disk has an open gate at this place, where the disk tells it
 abbrev pub ReadsOpen : ℕ → Option (List ℕ) → Type 0
-ReadsOpen at seen = (image : List ℕ) → seen ≡ Some image → slice_index image at ≡ 0xA5
+ReadsOpen at seen = (image : List ℕ) → seen ≡ Some image → slice_index image at ≡ OPEN
 
 -- a copy behind an open gate
 abbrev pub behind_open : List ℕ → List ℕ
-behind_open copy = 0xA5 ∷ drop 1 copy
+behind_open copy = OPEN ∷ drop 1 copy
 
 -- a copy while its gate is shut over any disk: as it was, or, where a read gave an open gate, as it was behind an open gate
 abbrev pub IsOld : ℕ → Option (List ℕ) → List ℕ → List ℕ → Type 0

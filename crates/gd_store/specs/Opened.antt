@@ -2,7 +2,7 @@
 use Rattle.std.specs.Prelude.{◌≡◌, ◌⊎◌, false, Result, Ok, Err}
 use Rattle.gd_disk.specs.Disk.{DiskState, IsSynced}
 use Rattle.gd_disk.specs.CutRuns.{IsCompleteRun, RunOf}
-use Rattle.gd_store.specs.Repair.{repaired, syncs_of_repair}
+use Rattle.gd_store.specs.Repair.{repair_needed, syncs_of_repair}
 use Rattle.gd_store.specs.declared.copy.states.Found.{Found}
 use Rattle.gd_store.specs.declared.room.Room.{Room}
 use Rattle.gd_store.specs.declared.store.Store.{Store}
@@ -44,6 +44,6 @@ OnLost (Opened.Off disk room) P = Unit {0}
 -- What an opening leaves of the syncs, the armed cuts and the faults, by what it answers: a whole run with the syncs of the
 -- repair, or of none, or a run of at most three that failed.
 abbrev pub OpeningRun : {D : Type 0} {g : _} → Opened D g → DiskState → DiskState → Type 0
-OpeningRun (Opened.Ready store found) old new = IsCompleteRun (syncs_of_repair (repaired found)) old new
+OpeningRun (Opened.Ready store found) old new = IsCompleteRun (syncs_of_repair (repair_needed found)) old new
 OpeningRun (Opened.Lost found disk room) old new = IsCompleteRun 0 old new
 OpeningRun (Opened.Off disk room) old new = RunOf {T = Unit {0}} {E = Unit {0}} 3 (Err tt) old new

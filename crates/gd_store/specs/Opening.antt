@@ -2,7 +2,7 @@
 use Rattle.std.specs.Prelude.{◌≡◌, ℕ, ◌==◌, Bool, false, List, Some}
 use Rattle.gd_store.specs.Copy.{copy_a, copy_b, boots, found_in}
 use Rattle.gd_store.specs.Booting.{IsFound}
-use Rattle.gd_store.specs.Repair.{repaired, syncs_of_repair}
+use Rattle.gd_store.specs.Repair.{repair_needed, syncs_of_repair}
 use Rattle.gd_store.specs.declared.copy.layout.Layout.{Layout}
 use Rattle.gd_store.specs.declared.copy.states.CopyState.{CopyState}
 use Rattle.gd_store.specs.declared.copy.states.Found.{Found}
@@ -21,4 +21,4 @@ pub record IsRead (l : Layout) (found : Found) (sequence : ℕ) (payload a b ima
 
 -- how many syncs the repair of an image makes: none where it is lost
 abbrev pub repairs_of : Layout → List ℕ → ℕ
-repairs_of l image = syncs_of_repair (repaired (found_in l image))
+repairs_of l image = syncs_of_repair (repair_needed (found_in l image))

@@ -23,8 +23,8 @@ repair_of (CopyState.Bad why) (CopyState.Sound n) = RepairA
 repair_of (CopyState.Bad why) (CopyState.Bad other) = NoRepair
 
 -- of what was found
-abbrev pub repaired : Found → Repair
-repaired found = repair_of found.a found.b
+abbrev pub repair_needed : Found → Repair
+repair_needed found = repair_of found.a found.b
 
 -- how many syncs it makes
 abbrev pub syncs_of_repair : Repair → ℕ

@@ -3,10 +3,11 @@ use Rattle.std.specs.Prelude.{◌≡◌, ◌≢◌, ◌⊎◌, ℕ, ◌+◌, ◌
 use Rattle.gd_store.specs.Copy.{part, boots, copy_a, copy_b, IsCopy}
 use Rattle.gd_store.specs.declared.copy.layout.Layout.{Layout}
 use Rattle.gd_disk.specs.Disk.{seen_with_bytes, DiskState, Torn}
+use Rattle.gd_store.specs.declared.copy.layout.TheConstants.{OPEN}
 
 -- the gate at this place isn't open
 abbrev pub IsShut : ℕ → List ℕ → Type 0
-IsShut at image = slice_index image at ≢ 0xA5
+IsShut at image = slice_index image at ≢ OPEN
 
 -- no gate of the two copies is open
 abbrev pub AreShut : Layout → List ℕ → Type 0
@@ -14,7 +15,7 @@ AreShut l image = IsShut l.a image × IsShut l.b image
 
 -- what a read gives after a gate that held this byte is shut
 abbrev pub seen_shut : ℕ → ℕ → Option (List ℕ) → Option (List ℕ)
-seen_shut at gate seen = if gate == 0xA5 then seen_with_bytes at (0 ∷ []) seen else seen
+seen_shut at gate seen = if gate == OPEN then seen_with_bytes at (0 ∷ []) seen else seen
 
 -- while a gate is shut: all else stands, and the gate is shut or all stands
 pub record IsShutting (at : ℕ) (old new : List ℕ) : Type 0 where
@@ -24,7 +25,7 @@ pub record IsShutting (at : ℕ) (old new : List ℕ) : Type 0 where
 -- a gate that held this byte is written over where it was open: all else stands
 pub record IsOverOpen (at gate : ℕ) (old new : List ℕ) : Type 0 where
   pub elsewhere : Torn at 1 old new
-  pub stands : gate ≢ 0xA5 → new ≡ old
+  pub stands : gate ≢ OPEN → new ≡ old
 
 -- while a copy is written over an image: all else stands, and the copy is the old one, or it's shut, or it's the new one
 pub record IsWriting (at : ℕ) (copy old new : List ℕ) : Type 0 where

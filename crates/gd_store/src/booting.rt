@@ -4,20 +4,22 @@ ghost use Rattle.std.specs.Prelude.{◌≡◌, true, OnOk, OnErr, Some, None, �
 ghost use Rattle.gd_disk.specs.Disk.{IfTold, Unchanged, Answers, Rose};
 ghost use Rattle.gd_disk.specs.CutRuns.{RunOf};
 ghost use Rattle.gd_disk.specs.Runs.{LeavesOnly};
-ghost use Rattle.gd_store.specs.Copy.{stored_payload, copy_len, header_start, state_of, lowest_bad, stored_sequence, copy_a, copy_b, chosen, LiesWithin};
-ghost use Rattle.gd_store.specs.Choice.{spelled};
+ghost use Rattle.gd_store.specs.Copy.{stored_payload, copy_len, state_of, lowest_bad, stored_sequence, copy_a, copy_b, latest_copy, LiesWithin};
+ghost use Rattle.gd_store.specs.Choice.{choice_meaning};
 ghost use Rattle.gd_store.specs.Booting.{BootedAs, outcome, BootedCopies, IsLatest, with_payload};
 ghost use Rattle.gd_store.specs.Lost.{IsLost, IsLostWhere, LostFinds};
 ghost use Rattle.gd_store.specs.Reads.{HasReadBoth, HasReadFewer};
 ghost use Rattle.gd_store.specs.Room.{room_payload};
 ghost use Rattle.gd_store.specs.Writing.{From};
 
+use crate::copy::layout::OPEN;
+use crate::copy::sealing::header_prefix;
 use crate::{CopyState, Found, LAYOUT, Layout, Room, Why};
 use gd_disk::{DIGEST_LEN, DIGESTS_AT, DISK_LEN, Disk, FRAME_LEN, Off, PAGE_LEN};
 use sha2::{Digest, Sha256};
 
 /// What a boot answers.
-#[derive(Clone, Copy, Debug, PartialEq, Eq, Drop)]
+#[derive(Clone, Copy, PartialEq, Eq, Debug, Drop)]
 pub enum Booted {
     /// A copy is booted, at this sequence.
     Ready { found: Found, sequence: u64 },
@@ -42,7 +44,8 @@ pub fn boot<D: Disk>(disk: &mut D, room: &mut Room) -> Booted
     ensures answer { Answers (outcome result) (D.state disk.old) (D.state disk.new) }
     ensures syncs { (D.state disk.new).syncs ≡ (D.state disk.old).syncs }
     ensures armed { (D.state disk.new).armed ≡ (D.state disk.old).armed }
-    ensures fault { OnErr (outcome result) ((D.state disk.old).is_on ≡ true → Rose (D.state disk.old).faults (D.state disk.new).faults) }
+    ensures fault { OnErr (outcome result) ((D.state disk.old).is_on ≡ true
+        → Rose (D.state disk.old).faults (D.state disk.new).faults) }
     ensures run { RunOf 0 (outcome result) (D.state disk.old) (D.state disk.new) }
     ensures read { OnOk (outcome result) (HasReadBoth (D.state disk.old).reads (D.state disk.new).reads) }
     ensures read_fewer { OnErr (outcome result) (HasReadFewer (D.state disk.old).reads (D.state disk.new).reads) }
@@ -62,9 +65,10 @@ pub fn boot<D: Disk>(disk: &mut D, room: &mut Room) -> Booted
     }
 }
 
-// Copies the payload of the booted copy.
+/// Copies the payload of the booted copy.
 fn take_payload(room: &mut Room, choice: Choice) -> Option<u64>
-    ensures booted { spelled choice (stored_payload LAYOUT room.old.a.items) (stored_payload LAYOUT room.old.b.items) ≡ with_payload result room.new.payload.items }
+    ensures booted { choice_meaning choice (stored_payload LAYOUT room.old.a.items)
+        (stored_payload LAYOUT room.old.b.items) ≡ with_payload result room.new.payload.items }
     ensures a { room.new.a.items ≡ room.old.a.items }
     ensures b { room.new.b.items ≡ room.old.b.items }
 {
@@ -82,16 +86,7 @@ fn take_payload(room: &mut Room, choice: Choice) -> Option<u64>
     }
 }
 
-// The name, the version and the page count with which a header begins.
-fn start(layout: Layout) -> [u8; 8]
-    ensures { result ≡ header_start layout }
-{
-    let [v0, v1] = layout.version.to_be_bytes();
-    let [p0, p1] = layout.pages.to_be_bytes();
-    [71, 68, 67, 77, v0, v1, p0, p1]
-}
-
-// The sequence in the header of a copy.
+/// The sequence in the header of a copy.
 fn sequence(copy: &[u8]) -> u64
     requires { DIGESTS_AT ≤ length copy.now }
     ensures { result ≡ stored_sequence copy.now }
@@ -101,7 +96,7 @@ fn sequence(copy: &[u8]) -> u64
     u64::from_be_bytes(bytes)
 }
 
-// The lowest page whose digest isn't the kept one.
+/// The lowest page whose digest isn't the kept one.
 fn lowest_bad_page(layout: Layout, copy: &[u8]) -> Option<u8>
     requires length { length copy.now ≡ copy_len layout.pages }
     requires pages { layout.pages ≤ 256 }
@@ -119,17 +114,17 @@ fn lowest_bad_page(layout: Layout, copy: &[u8]) -> Option<u8>
     None
 }
 
-// What a copy is: the first of the causes that applies, or sound.
+/// What a copy is: the first of the causes that applies, or sound.
 #[tactic(auto, unfolding(crate::specs::Copy::state_of, crate::specs::Copy::stored_head, crate::specs::Copy::stored_seal))]
 pub(crate) fn state(layout: Layout, copy: &[u8]) -> CopyState
     requires length { length copy.now ≡ copy_len layout.pages }
     requires pages { layout.pages ≤ 256 }
     ensures { result ≡ state_of layout copy.now }
 {
-    if copy[0] != 0xA5 {
+    if copy[0] != OPEN {
         return CopyState::Bad(Why::Shut);
     }
-    if copy[1..9] != start(layout)[..] {
+    if copy[1..9] != header_prefix(layout)[..] {
         return CopyState::Bad(Why::BadHeader);
     }
     let head = DIGESTS_AT + DIGEST_LEN * layout.pages as usize;
@@ -143,17 +138,17 @@ pub(crate) fn state(layout: Layout, copy: &[u8]) -> CopyState
     }
 }
 
-// Which of two copies is booted, at its sequence.
-#[derive(Clone, Copy, Debug, PartialEq, Eq, Drop)]
+/// Which of two copies is booted, at its sequence.
+#[derive(Clone, Copy, PartialEq, Eq, Debug, Drop)]
 pub(crate) enum Choice {
     CopyA(u64),
     CopyB(u64),
     Lost,
 }
 
-// Of two copies with these states and payloads, the sound one with the later sequence.
+/// Of two copies with these states and payloads, the sound one with the later sequence.
 fn choose(a: CopyState, b: CopyState, payload_a: &[u8], payload_b: &[u8]) -> Choice
-    ensures { spelled result payload_a.now payload_b.now ≡ chosen a b payload_a.now payload_b.now }
+    ensures { choice_meaning result payload_a.now payload_b.now ≡ latest_copy a b payload_a.now payload_b.now }
 {
     match (a, b) {
         (CopyState::Sound(m), CopyState::Sound(n)) => {
@@ -173,7 +168,7 @@ fn choose(a: CopyState, b: CopyState, payload_a: &[u8], payload_b: &[u8]) -> Cho
     }
 }
 
-// What was read: the states of the two copies, and which is booted.
+/// What was read: the states of the two copies, and which is booted.
 #[derive(Drop)]
 pub(crate) struct Read {
     pub(crate) a: CopyState,
@@ -181,7 +176,7 @@ pub(crate) struct Read {
     pub(crate) choice: Choice,
 }
 
-// Reads both copies, and says which is booted.
+/// Reads both copies, and says which is booted.
 pub(crate) fn read_copies<D: Disk>(
     disk: &mut D,
     layout: Layout,
@@ -192,16 +187,19 @@ pub(crate) fn read_copies<D: Disk>(
     requires a_len { length a.old ≡ copy_len layout.pages }
     requires b_len { length b.old ≡ copy_len layout.pages }
     requires pages { layout.pages ≤ 256 }
-    ensures copies { OnOk result (IfTold (D.state disk.old).seen (λ image. (a.new ≡ copy_a layout image) × (b.new ≡ copy_b layout image))) }
+    ensures copies { OnOk result (IfTold (D.state disk.old).seen (λ image. (a.new ≡ copy_a layout image)
+        × (b.new ≡ copy_b layout image))) }
     ensures states { IfOk result (λ r. (r.a ≡ state_of layout a.new) × (r.b ≡ state_of layout b.new)) }
-    ensures choice { IfOk result (λ r. spelled r.choice (stored_payload layout a.new) (stored_payload layout b.new)
-        ≡ chosen r.a r.b (stored_payload layout a.new) (stored_payload layout b.new)) }
+    ensures choice { IfOk result (λ r. choice_meaning r.choice (stored_payload layout a.new)
+        (stored_payload layout b.new)
+        ≡ latest_copy r.a r.b (stored_payload layout a.new) (stored_payload layout b.new)) }
     ensures seen { OnOk result ((D.state disk.new).seen ≡ (D.state disk.old).seen) }
     ensures any_moment { LeavesOnly (D.state disk.old) (D.state disk.new) (From (D.state disk.old) Unchanged) }
     ensures answer { Answers result (D.state disk.old) (D.state disk.new) }
     ensures syncs { (D.state disk.new).syncs ≡ (D.state disk.old).syncs }
     ensures armed { (D.state disk.new).armed ≡ (D.state disk.old).armed }
-    ensures fault { OnErr result ((D.state disk.old).is_on ≡ true → Rose (D.state disk.old).faults (D.state disk.new).faults) }
+    ensures fault { OnErr result ((D.state disk.old).is_on ≡ true
+        → Rose (D.state disk.old).faults (D.state disk.new).faults) }
     ensures run { RunOf 0 result (D.state disk.old) (D.state disk.new) }
     ensures read { OnOk result (HasReadBoth (D.state disk.old).reads (D.state disk.new).reads) }
     ensures read_fewer { OnErr result (HasReadFewer (D.state disk.old).reads (D.state disk.new).reads) }

@@ -1,6 +1,6 @@
 //! The two sealed copies on a disk: their bytes, where they stand, and how they are written.
 
-mod layout;
+pub(crate) mod layout;
 pub(crate) mod sealing;
 mod states;
 pub(crate) mod writing;

@@ -29,23 +29,29 @@ impl<D: Disk> Store<D> {
     /// then writes and opens copy a, then copy b, by five syncs. The room keeps its payload. At each moment each copy
     /// is the old one, or shut, or the new one, and none is new beside an old one. Where writes waited for a sync before,
     /// a gate that they opened may be found open over the old copy until the first of the five.
-    pub fn make(disk: D, room: Room) -> Made<D>
+    pub fn make(mut disk: D, mut room: Room) -> Made<D>
         requires size { (D.state disk).size ≡ DISK_LEN }
-        ensures done { OnOk (made_outcome result) (IfTold (D.state (made_disk result)).seen (HoldsBoth LAYOUT 0 (room_payload room))) }
+        ensures done { OnOk (made_outcome result) (IfTold
+            (D.state (made_disk result)).seen (HoldsBoth LAYOUT 0 (room_payload room))) }
         ensures synced { OnOk (made_outcome result) (IsSynced (D.state (made_disk result))) }
-        ensures any_moment { IsSynced (D.state disk) → LeavesOnly (D.state disk) (D.state (made_disk result)) (From (D.state disk) (IsMaking LAYOUT (room_payload room))) }
-        ensures boots { IsSynced (D.state disk) → LeavesOnly (D.state disk) (D.state (made_disk result)) (From (D.state disk) (BootsOver LAYOUT (room_payload room))) }
-        ensures waiting { LeavesOnly (D.state disk) (D.state (made_disk result)) (From (D.state disk) (IsMakingAny LAYOUT (room_payload room) (D.state disk).seen)) }
+        ensures any_moment { IsSynced (D.state disk)
+            → LeavesOnly (D.state disk) (D.state (made_disk result)) (From
+            (D.state disk) (IsMaking LAYOUT (room_payload room))) }
+        ensures boots { IsSynced (D.state disk)
+            → LeavesOnly (D.state disk) (D.state (made_disk result)) (From
+            (D.state disk) (BootsOver LAYOUT (room_payload room))) }
+        ensures waiting { LeavesOnly (D.state disk) (D.state (made_disk result)) (From
+            (D.state disk) (IsMakingAny LAYOUT (room_payload room) (D.state disk).seen)) }
         ensures answer { Answers (made_outcome result) (D.state disk) (D.state (made_disk result)) }
         ensures syncs { MadeSyncs 5 (made_outcome result) (D.state disk) (D.state (made_disk result)) }
         ensures cuts { CutsOfRun 5 (made_outcome result) (D.state disk) (D.state (made_disk result)) }
         ensures run { RunOf 5 (made_outcome result) (D.state disk) (D.state (made_disk result)) }
-        ensures read { OnOk (made_outcome result) (HasReadBoth (D.state disk).reads (D.state (made_disk result)).reads) }
-        ensures read_some { OnErr (made_outcome result) (HasReadSome (D.state disk).reads (D.state (made_disk result)).reads) }
+        ensures read { OnOk (made_outcome result) (HasReadBoth (D.state disk).reads
+            (D.state (made_disk result)).reads) }
+        ensures read_some { OnErr (made_outcome result) (HasReadSome (D.state disk).reads
+            (D.state (made_disk result)).reads) }
         ensures payload { room_payload (made_room result) ≡ room_payload room }
     {
-        let mut disk = disk;
-        let mut room = room;
         let parts = &mut room;
         match make_both(&mut disk, LAYOUT, &parts.payload, &mut parts.a[1..]) {
             Ok(()) => Made::Done { disk, room },
@@ -54,7 +60,7 @@ impl<D: Disk> Store<D> {
     }
 }
 
-// Writes a payload to both copies at sequence 0.
+/// Writes a payload to both copies at sequence 0.
 fn make_both<D: Disk>(
     disk: &mut D,
     layout: Layout,
@@ -66,8 +72,10 @@ fn make_both<D: Disk>(
     requires body { length body.old + 1 ≡ copy_len layout.pages }
     ensures holds { OnOk result (IfTold (D.state disk.new).seen (HoldsBoth layout 0 payload.now)) }
     ensures synced { OnOk result (IsSynced (D.state disk.new)) }
-    ensures any_moment { IsSynced (D.state disk.old) → LeavesOnly (D.state disk.old) (D.state disk.new) (From (D.state disk.old) (IsMaking layout payload.now)) }
-    ensures waiting { LeavesOnly (D.state disk.old) (D.state disk.new) (From (D.state disk.old) (IsMakingAny layout payload.now (D.state disk.old).seen)) }
+    ensures any_moment { IsSynced (D.state disk.old)
+        → LeavesOnly (D.state disk.old) (D.state disk.new) (From (D.state disk.old) (IsMaking layout payload.now)) }
+    ensures waiting { LeavesOnly (D.state disk.old) (D.state disk.new) (From
+        (D.state disk.old) (IsMakingAny layout payload.now (D.state disk.old).seen)) }
     ensures answer { Answers result (D.state disk.old) (D.state disk.new) }
     ensures fewer { OnErr result ((D.state disk.new).syncs < (D.state disk.old).syncs + 5) }
     ensures run { RunOf 5 result (D.state disk.old) (D.state disk.new) }
@@ -80,13 +88,15 @@ fn make_both<D: Disk>(
     write_shut(disk, layout.b, body)
 }
 
-// Shuts the gates that are open. The one sync is made all the same.
+/// Shuts the gates that are open. The one sync is made all the same.
 fn shut_both<D: Disk>(disk: &mut D, layout: Layout) -> Result<(), Off>
     requires within { LiesWithin layout (D.state disk.old).size }
     ensures shut { OnOk result (IfTold (D.state disk.new).seen (AreShut layout)) }
     ensures synced { OnOk result (IsSynced (D.state disk.new)) }
-    ensures any_moment { IsSynced (D.state disk.old) → LeavesOnly (D.state disk.old) (D.state disk.new) (From (D.state disk.old) (AreShutting layout)) }
-    ensures waiting { LeavesOnly (D.state disk.old) (D.state disk.new) (From (D.state disk.old) (AreShuttingAny layout (D.state disk.old).seen)) }
+    ensures any_moment { IsSynced (D.state disk.old)
+        → LeavesOnly (D.state disk.old) (D.state disk.new) (From (D.state disk.old) (AreShutting layout)) }
+    ensures waiting { LeavesOnly (D.state disk.old) (D.state disk.new) (From
+        (D.state disk.old) (AreShuttingAny layout (D.state disk.old).seen)) }
     ensures answer { Answers result (D.state disk.old) (D.state disk.new) }
     ensures fewer { OnErr result ((D.state disk.new).syncs < (D.state disk.old).syncs + 1) }
     ensures run { RunOf 1 result (D.state disk.old) (D.state disk.new) }
@@ -100,7 +110,7 @@ fn shut_both<D: Disk>(disk: &mut D, layout: Layout) -> Result<(), Off>
     disk.sync()
 }
 
-// The byte of a gate.
+/// The byte of a gate.
 fn read_gate<D: Disk>(disk: &mut D, at: u64) -> Result<u8, Off>
     requires { at + 1 ≤ (D.state disk.old).size }
     ensures gate { IfOk result (λ gate. IfTold (D.state disk.old).seen (λ image. slice_index image at ≡ gate)) }

@@ -12,7 +12,7 @@ ghost use Rattle.gd_store.specs.Store.{store_payload, store_sequence, store_stop
 ghost use Rattle.gd_store.specs.Writing.{From, KeepsBoot};
 ghost use Rattle.gd_store.specs.Opening.{repairs_of, IsRead, is_at};
 ghost use Rattle.gd_store.specs.Opened.{disk_in, outcome, OnReady, OnLost, IsOpenable, OpeningRun};
-ghost use Rattle.gd_store.specs.Repair.{repaired, syncs_of_repair, other_side};
+ghost use Rattle.gd_store.specs.Repair.{repair_needed, syncs_of_repair, other_side};
 
 use crate::booting::{Booted, boot};
 use crate::copy::sealing::seal_body;
@@ -34,26 +34,28 @@ pub enum Opened<D: Disk> {
 impl<D: Disk> Store<D> {
     /// Boots, and writes the other copy anew, by three syncs, where it isn't sound or has another sequence. What is
     /// booted stays the same at each moment.
-    pub fn open(disk: D, room: Room) -> Opened<D>
+    pub fn open(mut disk: D, mut room: Room) -> Opened<D>
         requires size { (D.state disk).size ≡ DISK_LEN }
         requires openable { IsOpenable (D.state disk) }
         ensures runs { OnReady result (λ store found. store_stopped store ≡ false) }
         ensures ready { OnReady result (λ store found. IfTold (D.state disk).seen (λ image.
             IsFound LAYOUT found image × (boots LAYOUT image ≡ Some (store_sequence store, store_payload store)))) }
-        ensures lost { OnLost result (λ found. IfTold (D.state disk).seen (λ image. IsFound LAYOUT found image × (boots LAYOUT image ≡ None))) }
+        ensures lost { OnLost result (λ found. IfTold (D.state disk).seen (λ image. IsFound LAYOUT found image
+            × (boots LAYOUT image ≡ None))) }
         ensures lost_exactly { IfTold (D.state disk).seen (λ image. OpensLostWhere result (IsLost LAYOUT image)) }
         ensures any_moment { LeavesOnly (D.state disk) (D.state (disk_in result)) (KeepsBoot LAYOUT (D.state disk)) }
-        ensures unwritten { OnLost result (λ found. LeavesOnly (D.state disk) (D.state (disk_in result)) (From (D.state disk) Unchanged)) }
+        ensures unwritten { OnLost result
+            (λ found. LeavesOnly (D.state disk) (D.state (disk_in result)) (From (D.state disk) Unchanged)) }
         ensures answer { Answers (outcome result) (D.state disk) (D.state (disk_in result)) }
         ensures few { OnErr (outcome result) ((D.state (disk_in result)).syncs < (D.state disk).syncs + 3) }
-        ensures untouched { OnLost result (λ found. ((D.state (disk_in result)).seen ≡ (D.state disk).seen) × ((D.state (disk_in result)).syncs ≡ (D.state disk).syncs)) }
+        ensures untouched { OnLost result (λ found. ((D.state (disk_in result)).seen ≡ (D.state disk).seen)
+            × ((D.state (disk_in result)).syncs ≡ (D.state disk).syncs)) }
         ensures answer_run { OpeningRun result (D.state disk) (D.state (disk_in result)) }
-        ensures run { IfTold (D.state disk).seen (λ image. RunOf (repairs_of LAYOUT image) (outcome result) (D.state disk) (D.state (disk_in result))) }
+        ensures run { IfTold (D.state disk).seen
+            (λ image. RunOf (repairs_of LAYOUT image) (outcome result) (D.state disk) (D.state (disk_in result))) }
         ensures read { OnOk (outcome result) (HasReadBoth (D.state disk).reads (D.state (disk_in result)).reads) }
         ensures read_some { OnErr (outcome result) (HasReadSome (D.state disk).reads (D.state (disk_in result)).reads) }
     {
-        let mut disk = disk;
-        let mut room = room;
         match boot(&mut disk, &mut room) {
             Booted::Off => Opened::Off { disk, room },
             Booted::Lost(found) => Opened::Lost { found, disk, room },
@@ -84,7 +86,7 @@ impl<D: Disk> Store<D> {
     }
 }
 
-// Sound at this sequence.
+/// Sound at this sequence.
 fn is_at(state: CopyState, sequence: u64) -> bool
     ensures { result ≡ is_at state sequence }
 {
@@ -94,8 +96,8 @@ fn is_at(state: CopyState, sequence: u64) -> bool
     }
 }
 
-// Writes the copy that isn't the booted one, where it isn't sound at the booted sequence. The bytes of a copy that was
-// read are written over.
+/// Writes the copy that isn't the booted one, where it isn't sound at the booted sequence. The bytes of a copy that was
+/// read are written over.
 pub(crate) fn repair<D: Disk>(
     disk: &mut D,
     layout: Layout,
@@ -117,8 +119,9 @@ pub(crate) fn repair<D: Disk>(
     ensures synced { OnOk result (IsSynced (D.state disk.new)) }
     ensures any_moment { LeavesOnly (D.state disk.old) (D.state disk.new) (KeepsBoot layout (D.state disk.old)) }
     ensures answer { Answers result (D.state disk.old) (D.state disk.new) }
-    ensures fewer { OnErr result ((D.state disk.new).syncs < (D.state disk.old).syncs + syncs_of_repair (repaired found)) }
-    ensures run { RunOf (syncs_of_repair (repaired found)) result (D.state disk.old) (D.state disk.new) }
+    ensures fewer { OnErr result ((D.state disk.new).syncs <
+        (D.state disk.old).syncs + syncs_of_repair (repair_needed found)) }
+    ensures run { RunOf (syncs_of_repair (repair_needed found)) result (D.state disk.old) (D.state disk.new) }
     ensures reads { (D.state disk.new).reads ≡ (D.state disk.old).reads }
 {
     if !is_at(found.a, sequence) {
@@ -132,7 +135,7 @@ pub(crate) fn repair<D: Disk>(
     Ok(())
 }
 
-// Writes one copy, where the other one is booted.
+/// Writes one copy, where the other one is booted.
 fn repair_side<D: Disk>(
     disk: &mut D,
     layout: Layout,
@@ -147,7 +150,9 @@ fn repair_side<D: Disk>(
     requires gate { IfTold (D.state disk.old).seen (λ image. slice_index image (gate_at layout side) ≡ gate) }
     requires payload { length payload.now ≡ PAGE_LEN * layout.pages }
     requires body { length body.old + 1 ≡ copy_len layout.pages }
-    requires booted { IfTold (D.state disk.old).seen (λ image. IsCopy layout sequence payload.now (copy_at layout (other_side side) image) × (boots layout image ≡ Some (sequence, payload.now))) }
+    requires booted { IfTold (D.state disk.old).seen
+        (λ image. IsCopy layout sequence payload.now (copy_at layout (other_side side) image)
+        × (boots layout image ≡ Some (sequence, payload.now))) }
     ensures holds { OnOk result (IfTold (D.state disk.new).seen (HoldsBoth layout sequence payload.now)) }
     ensures synced { OnOk result (IsSynced (D.state disk.new)) }
     ensures any_moment { LeavesOnly (D.state disk.old) (D.state disk.new) (KeepsBoot layout (D.state disk.old)) }

@@ -55,8 +55,10 @@ impl<D: Disk> Store<D> {
     /// copies.
     pub fn is_stopped(&self) -> bool
         ensures value { result ≡ store_stopped self.now }
-        ensures settled { store_stopped self.now ≡ false → (image : List ℕ) → (D.state (store_disk self.now)).may_find image →
-            HoldsBoth LAYOUT (store_sequence self.now) (store_payload self.now) image × (boots LAYOUT image ≡ Some (store_sequence self.now, store_payload self.now)) }
+        ensures settled { store_stopped self.now ≡ false → (image : List ℕ)
+            → (D.state (store_disk self.now)).may_find image →
+            HoldsBoth LAYOUT (store_sequence self.now) (store_payload self.now) image
+                × (boots LAYOUT image ≡ Some (store_sequence self.now, store_payload self.now)) }
     {
         self.is_stopped
     }
@@ -74,7 +76,8 @@ impl<D: Disk> Store<D> {
         ensures payload { room_payload result.1 ≡ store_payload self }
         ensures synced { store_stopped self ≡ false → IsSynced (D.state result.0) }
         ensures off { store_stopped self ≡ true → (D.state result.0).is_on ≡ false }
-        ensures settled { store_stopped self ≡ false → (image : List ℕ) → (D.state result.0).seen ≡ Some image → HoldsBoth LAYOUT (store_sequence self) (store_payload self) image }
+        ensures settled { store_stopped self ≡ false → (image : List ℕ) → (D.state result.0).seen ≡ Some image
+            → HoldsBoth LAYOUT (store_sequence self) (store_payload self) image }
     {
         (self.disk, self.room)
     }
@@ -86,17 +89,25 @@ impl<D: Disk> Store<D> {
     pub fn commit(&mut self, payload: &[u8]) -> Result<(), Off>
         requires length { length payload.now ≡ PAGE_LEN * PAGE_COUNT }
         requires sequence { store_sequence self.old < 2 ^ 36 }
-        ensures committed { OnOk result ((store_sequence self.new ≡ store_sequence self.old + 1) × (store_payload self.new ≡ payload.now) × (store_stopped self.new ≡ false)) }
-        ensures stays { OnErr result ((store_sequence self.new ≡ store_sequence self.old) × (store_payload self.new ≡ store_payload self.old) × (store_stopped self.new ≡ true)) }
-        ensures after_off { store_stopped self.old ≡ true → IsErr result × ((D.state (store_disk self.old)).is_on ≡ false)
+        ensures committed { OnOk result ((store_sequence self.new ≡ store_sequence self.old + 1)
+            × (store_payload self.new ≡ payload.now) × (store_stopped self.new ≡ false)) }
+        ensures stays { OnErr result ((store_sequence self.new ≡ store_sequence self.old)
+            × (store_payload self.new ≡ store_payload self.old) × (store_stopped self.new ≡ true)) }
+        ensures after_off { store_stopped self.old ≡ true
+            → IsErr result × ((D.state (store_disk self.old)).is_on ≡ false)
             × ((D.state (store_disk self.new)).stops ≡ next_count (D.state (store_disk self.old)).stops)
-            × LeavesOnly (D.state (store_disk self.old)) (D.state (store_disk self.new)) (From (D.state (store_disk self.old)) Unchanged) }
-        ensures any_moment { store_stopped self.old ≡ false → LeavesOnly (D.state (store_disk self.old)) (D.state (store_disk self.new))
-            (λ image. (boots LAYOUT image ≡ Some (store_sequence self.old, store_payload self.old)) ⊎ (boots LAYOUT image ≡ Some (store_sequence self.old + 1, payload.now))) }
-        ensures order { store_stopped self.old ≡ false → LeavesOnly (D.state (store_disk self.old)) (D.state (store_disk self.new))
+            × LeavesOnly (D.state (store_disk self.old)) (D.state (store_disk self.new)) (From
+                (D.state (store_disk self.old)) Unchanged) }
+        ensures any_moment { store_stopped self.old ≡ false
+            → LeavesOnly (D.state (store_disk self.old)) (D.state (store_disk self.new))
+            (λ image. (boots LAYOUT image ≡ Some (store_sequence self.old, store_payload self.old))
+                ⊎ (boots LAYOUT image ≡ Some (store_sequence self.old + 1, payload.now))) }
+        ensures order { store_stopped self.old ≡ false
+            → LeavesOnly (D.state (store_disk self.old)) (D.state (store_disk self.new))
             (IsCommitting LAYOUT (store_sequence self.old, store_payload self.old) (store_sequence self.old + 1, payload.now)) }
         ensures answer { Answers result (D.state (store_disk self.old)) (D.state (store_disk self.new)) }
-        ensures fewer { OnErr result ((D.state (store_disk self.new)).syncs < (D.state (store_disk self.old)).syncs + 6) }
+        ensures fewer { OnErr result ((D.state (store_disk self.new)).syncs <
+            (D.state (store_disk self.old)).syncs + 6) }
         ensures run { RunOf 6 result (D.state (store_disk self.old)) (D.state (store_disk self.new)) }
         ensures reads { (D.state (store_disk self.new)).reads ≡ (D.state (store_disk self.old)).reads }
     {
@@ -137,7 +148,8 @@ impl<L: LabDisk> Store<L> {
         requires room { length (L.state (store_disk self.old)).armed < 256 }
         requires count { 1 ≤ count }
         requires torn { torn ≤ 3 }
-        ensures armed { (L.state (store_disk self.new)).armed ≡ (L.state (store_disk self.old)).armed ++ record { unit = unit; count = count; torn = torn } ∷ [] }
+        ensures armed { (L.state (store_disk self.new)).armed
+            ≡ (L.state (store_disk self.old)).armed ++ record { unit = unit; count = count; torn = torn } ∷ [] }
         ensures power { (L.state (store_disk self.new)).is_on ≡ (L.state (store_disk self.old)).is_on }
         ensures seen { (L.state (store_disk self.new)).seen ≡ (L.state (store_disk self.old)).seen }
         ensures loss { Loses Unchanged (L.state (store_disk self.old)) (L.state (store_disk self.new)) }

@@ -16,12 +16,12 @@ use std::test::Fail;
 
 const PAYLOAD_LEN: usize = PAGE_LEN * PAGE_COUNT;
 
-// The gate and the header of an open copy at sequence 0.
+/// The gate and the header of an open copy at sequence 0.
 const HEADER: [u8; 17] = [
     0xA5, 0x47, 0x44, 0x43, 0x4D, 0, 0, 0, 32, 0, 0, 0, 0, 0, 0, 0, 0,
 ];
 
-// The digests of a page of 0x00 and of one of 0x1f, and the seal of a copy at sequence 0 whose page i has the byte i.
+/// The digests of a page of 0x00 and of one of 0x1f, and the seal of a copy at sequence 0 whose page i has the byte i.
 const PAGE_0: [u8; 32] = [
     0x07, 0x6a, 0x27, 0xc7, 0x9e, 0x5a, 0xce, 0x2a, 0x3d, 0x47, 0xf9, 0xdd, 0x2e, 0x83, 0xe4, 0xff,
     0x6e, 0xa8, 0x87, 0x2b, 0x3c, 0x22, 0x18, 0xf6, 0x6c, 0x92, 0xb8, 0x9b, 0x55, 0xf3, 0x65, 0x60,
@@ -37,7 +37,7 @@ const SEAL: [u8; 32] = [
     0x8f, 0xaf, 0xe1, 0x73, 0x56, 0x5b, 0x8a, 0x73, 0x78, 0x42, 0x73, 0xc3, 0xbd, 0xdf, 0xf2, 0xd6,
 ];
 
-// A payload whose page i has the byte `first + i` all over.
+/// A payload whose page i has the byte `first + i` all over.
 fn payload(alloc: Global, first: u8) -> Result<Vec<u8>, AllocError>
     ensures { IfOk result (λ v. length v.items ≡ PAYLOAD_LEN) }
 {
@@ -83,7 +83,7 @@ fn both(state: CopyState) -> Found {
     Found { a: state, b: state }
 }
 
-// Makes, commits, closes, opens again and boots.
+/// Makes, commits, closes, opens again and boots.
 fn keeps<D: Disk + Drop>(rt: &impl Abort, alloc: Global, disk: D) -> Result<(), Fail> {
     let (first, second) = (payload(alloc, 1)?, payload(alloc, 50)?);
     let mut room = Room::new(alloc)?;
@@ -117,7 +117,7 @@ fn keeps_a_payload(rt: HostRuntime) -> Result<(), Fail> {
     keeps(&rt, rt.alloc(), MemoryLab::new(rt.alloc(), DISK_LEN)?)
 }
 
-// Whether the copy at this place of a disk is that of such a payload at sequence 0.
+/// Whether the copy at this place of a disk is that of such a payload at sequence 0.
 fn is_spelled<D: Disk>(
     rt: &impl Abort,
     disk: &mut D,
@@ -149,7 +149,7 @@ fn spells_a_copy(rt: HostRuntime) -> Result<(), Fail> {
     Ok(())
 }
 
-// How a copy is to be found: sound with a payload, or bad.
+/// How a copy is to be found: sound with a payload, or bad.
 #[derive(Clone, Copy, Debug, Drop)]
 struct Given {
     state: CopyState,
@@ -170,7 +170,7 @@ fn bad(why: Why) -> Given {
     }
 }
 
-// Such a copy.
+/// Such a copy.
 fn copy_of(alloc: Global, given: Given) -> Result<Vec<u8>, AllocError> {
     let sequence = match given.state {
         CopyState::Sound(sequence) => sequence,
@@ -189,7 +189,7 @@ fn copy_of(alloc: Global, given: Given) -> Result<Vec<u8>, AllocError> {
     Ok(copy)
 }
 
-// The two copies, and the sequence and the payload that are booted.
+/// The two copies, and the sequence and the payload that are booted.
 fn pairs() -> [(Given, Given, Option<(u64, u8)>); 9] {
     [
         (sound(4, 1), sound(4, 1), Some((4, 1))),
@@ -204,7 +204,7 @@ fn pairs() -> [(Given, Given, Option<(u64, u8)>); 9] {
     ]
 }
 
-// Whether this is booted, with this payload.
+/// Whether this is booted, with this payload.
 fn boots_as<D: Disk>(
     rt: &impl Abort,
     alloc: Global,
@@ -249,7 +249,7 @@ fn turned_on<L: LabDisk>(rt: &impl Abort, lab: &mut L) -> Result<(), Fail>
     Ok(lab.power_on()?)
 }
 
-// A cut, at call `count` of its unit.
+/// A cut, at call `count` of its unit.
 #[derive(Clone, Copy, Debug, Drop)]
 struct Cut {
     unit: CutUnit,
@@ -264,7 +264,7 @@ fn arm<L: LabDisk>(rt: &impl Abort, lab: &mut L, cut: Cut) {
     lab.arm(cut.unit, cut.count, cut.torn);
 }
 
-// A memory at sequence 1 in both copies, off, with a cut armed.
+/// A memory at sequence 1 in both copies, off, with a cut armed.
 fn memory<L: LabDisk + Drop>(
     rt: &impl Abort,
     alloc: Global,
@@ -280,7 +280,7 @@ fn memory<L: LabDisk + Drop>(
     Ok((lab, room))
 }
 
-// What is booted after a loss of power now.
+/// What is booted after a loss of power now.
 fn boot_after<L: LabDisk>(rt: &impl Abort, lab: &mut L, room: &mut Room) -> Result<Booted, Fail> {
     lab.power_off();
     turned_on(rt, lab)?;
@@ -288,7 +288,7 @@ fn boot_after<L: LabDisk>(rt: &impl Abort, lab: &mut L, room: &mut Room) -> Resu
     Ok(boot(lab, room))
 }
 
-// What is found after a loss of power now.
+/// What is found after a loss of power now.
 fn found_after<L: LabDisk + Drop>(rt: &impl Abort, lab: L, room: Room) -> Result<Found, Fail> {
     let mut lab = lab;
     let mut room = room;
@@ -299,7 +299,7 @@ fn found_after<L: LabDisk + Drop>(rt: &impl Abort, lab: L, room: Room) -> Result
     }
 }
 
-// Whether a commit to sequence 2 succeeds under a cut, and what is found after it. A commit after it fails by one call.
+/// Whether a commit to sequence 2 succeeds under a cut, and what is found after it. A commit after it fails by one call.
 fn commit_under<L: LabDisk + Drop>(
     rt: &impl Abort,
     alloc: Global,
@@ -319,7 +319,7 @@ fn commit_under<L: LabDisk + Drop>(
     Ok((is_done, found_after(rt, lab, room)?))
 }
 
-// The same of a making.
+/// The same of a making.
 fn make_under<L: LabDisk + Drop>(
     rt: &impl Abort,
     alloc: Global,
@@ -335,7 +335,7 @@ fn make_under<L: LabDisk + Drop>(
     }
 }
 
-// What a copy is found to be after a cut at call `call` of the six that write it over another, torn in this way.
+/// What a copy is found to be after a cut at call `call` of the six that write it over another, torn in this way.
 fn written(call: u32, torn: u8, old: CopyState, new: CopyState) -> CopyState {
     let shut = CopyState::Bad(Why::Shut);
     match call {
@@ -347,7 +347,7 @@ fn written(call: u32, torn: u8, old: CopyState, new: CopyState) -> CopyState {
     }
 }
 
-// After a cut at a call of a commit, of which the first six write copy a.
+/// After a cut at a call of a commit, of which the first six write copy a.
 fn left_by_commit(call: u32, torn: u8) -> Found {
     let (old, new) = (CopyState::Sound(1), CopyState::Sound(2));
     Found {
@@ -356,7 +356,7 @@ fn left_by_commit(call: u32, torn: u8) -> Found {
     }
 }
 
-// After one at a call of a making: the first three shut both gates, and four write each copy.
+/// After one at a call of a making: the first three shut both gates, and four write each copy.
 fn left_by_making(call: u32, torn: u8) -> Found {
     let (old, new) = (CopyState::Sound(1), CopyState::Sound(0));
     let shut = CopyState::Bad(Why::Shut);
@@ -373,7 +373,7 @@ fn left_by_making(call: u32, torn: u8) -> Found {
     }
 }
 
-// A cut at call `call`, and one at sync `sync`.
+/// A cut at call `call`, and one at sync `sync`.
 fn by_calls(call: u32, torn: u8) -> Cut {
     Cut {
         unit: CutUnit::Call,
@@ -403,7 +403,7 @@ fn a_cut_at_each_call_of_a_commit(rt: HostRuntime) -> Result<(), Fail> {
     Ok(())
 }
 
-// The syncs of a commit are each second call of it.
+/// The syncs of a commit are each second call of it.
 #[test]
 fn a_cut_at_each_sync_of_a_commit(rt: HostRuntime) -> Result<(), Fail> {
     for torn in 0..4 {
@@ -443,14 +443,14 @@ fn a_cut_at_each_sync_of_a_making(rt: HostRuntime) -> Result<(), Fail> {
     Ok(())
 }
 
-// The places of the two copies, and of a byte of page 3 in a copy.
+/// The places of the two copies, and of a byte of page 3 in a copy.
 const COPY_A: u64 = 0;
 
 const COPY_B: u64 = COPY_LEN as u64;
 
 const PAGE_3: u64 = 1073 + 3 * PAGE_LEN as u64;
 
-// The bytes that the copy at this place has after a loss of power now. The power is off again after it.
+/// The bytes that the copy at this place has after a loss of power now. The power is off again after it.
 fn copy_found<L: LabDisk>(
     rt: &impl Abort,
     alloc: Global,
@@ -467,7 +467,7 @@ fn copy_found<L: LabDisk>(
     Ok(copy)
 }
 
-// Opens a store, and gives the disk back: whether it was opened.
+/// Opens a store, and gives the disk back: whether it was opened.
 fn open_and_close<D: Disk + Drop>(rt: &impl Abort, disk: D, room: Room) -> Result<(bool, D), Fail>
     requires { IsOpenable (D.state disk) }
 {
@@ -483,7 +483,7 @@ fn open_and_close<D: Disk + Drop>(rt: &impl Abort, disk: D, room: Room) -> Resul
     }
 }
 
-// Alters a byte of page 3 of the copy at this place.
+/// Alters a byte of page 3 of the copy at this place.
 fn alter_page<L: LabDisk>(rt: &impl Abort, lab: &mut L, at: u64) {
     assert!(rt; !lab.powered());
     assert!(rt; lab.len() == DISK_LEN);
@@ -491,8 +491,8 @@ fn alter_page<L: LabDisk>(rt: &impl Abort, lab: &mut L, at: u64) {
     lab.alter(at + PAGE_3, 1);
 }
 
-// Whether an opening succeeds under a cut, where page 3 of the copy at `bad` was altered and the copy at `sound` holds
-// the payload at sequence 1, and what is booted after it. That payload is booted, and the sound copy stays as it was.
+/// Whether an opening succeeds under a cut, where page 3 of the copy at `bad` was altered and the copy at `sound` holds
+/// the payload at sequence 1, and what is booted after it. That payload is booted, and the sound copy stays as it was.
 fn repair_under<L: LabDisk + Drop>(
     rt: &impl Abort,
     alloc: Global,
@@ -516,8 +516,8 @@ fn repair_under<L: LabDisk + Drop>(
     Ok((is_done, booted))
 }
 
-// The cuts of a repair, each with the call that it falls on: the six calls, and the three syncs among them, which are
-// each second call. The cut behind each of them comes too late.
+/// The cuts of a repair, each with the call that it falls on: the six calls, and the three syncs among them, which are
+/// each second call. The cut behind each of them comes too late.
 fn cuts_of_a_repair(torn: u8) -> [(Cut, u32); 11] {
     [
         (by_calls(1, torn), 1),
@@ -534,7 +534,7 @@ fn cuts_of_a_repair(torn: u8) -> [(Cut, u32); 11] {
     ]
 }
 
-// What the copy that is repaired is found to be after a cut at this call.
+/// What the copy that is repaired is found to be after a cut at this call.
 fn left_by_repair(call: u32, torn: u8) -> CopyState {
     written(
         call,
@@ -578,7 +578,7 @@ fn a_cut_in_a_repair_of_copy_b(rt: HostRuntime) -> Result<(), Fail> {
     Ok(())
 }
 
-// Arms a cut through a store, and commits: whether it succeeds, and how many cuts are armed before and after it.
+/// Arms a cut through a store, and commits: whether it succeeds, and how many cuts are armed before and after it.
 fn cut_in_a_store<L: LabDisk + Drop>(
     rt: &impl Abort,
     alloc: Global,
@@ -600,12 +600,12 @@ fn a_cut_armed_through_a_store(rt: HostRuntime) -> Result<(), Fail> {
     Ok(())
 }
 
-// The bytes of a disk with no memory.
+/// The bytes of a disk with no memory.
 fn blank(alloc: Global) -> Result<Vec<u8>, AllocError> {
     vec![in alloc; 0; DISK_LEN as usize]
 }
 
-// A memory in a file, seen by a second opening and by a read of the file.
+/// A memory in a file, seen by a second opening and by a read of the file.
 #[test]
 fn keeps_a_payload_in_a_file(rt: HostRuntime) -> Result<(), Fail> {
     let path = "store_kept";

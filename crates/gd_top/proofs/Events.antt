@@ -10,7 +10,7 @@ use Rattle.gd_base.specs.Outside.Causes.{Rose}
 use Rattle.gd_base.specs.Histories.Entry.{device_of}
 use Rattle.gd_base.specs.Judging.Legal.{draw_of}
 use Rattle.gd_base.specs.Judging.Machine.{Machine, Blocks}
-use Rattle.gd_cabinet.specs.Answered.{offered, syncs_of}
+use Rattle.gd_cabinet.specs.Answered.{view_offered, syncs_of}
 use Rattle.gd_disk.specs.Disk.{DiskState}
 use Rattle.gd_disk.specs.Runs.{CanMeet, CutOrFaultIn}
 use Rattle.gd_top.specs.Answered.{answer_text}
@@ -62,7 +62,7 @@ module _ {V : Type 0} (M : Machine V) (B : Blocks) where
   -- an event tells the line of its answer, and leaves the view that it was offered to
   pub event_is_told : (v : V) (e : Numbered) (n p : ℕ) (x : Unseen V) → IsWhole x.broken_at (x.offers + (moves_by v e (answer M v e)).made)
       → event_told M B e (at (standing v On n p) x)
-      ≡ told (answer_text e (answer M v e) (M.count (offered M B 0 v e))) (at (standing (offered M B 0 v e) On n p) ((moves_by v e (answer M v e)).moved x))
+      ≡ told (answer_text e (answer M v e) (M.count (view_offered M B 0 v e))) (at (standing (view_offered M B 0 v e) On n p) ((moves_by v e (answer M v e)).moved x))
   event_is_told v e n p x whole = event_by v e (answer M v e) refl n p x whole
 
   broken_now : (b : Option ℕ) (n : ℕ) → b ≡ Some n → is_broken b n ≡ true

@@ -4,12 +4,12 @@ use Rattle.std.proofs.lemmas.Bool.Decides.{nat_tests}
 use Rattle.std.proofs.lemmas.List.Elements.{All-append, All-cons, All-nil}
 use Rattle.gd_base.specs.Judging.Machine.{Machine, Blocks}
 use Rattle.gd_base.specs.Payloads.Spelled.{Shows}
-use Rattle.gd_cabinet.specs.Opening.{IsOpening, start_of, started}
+use Rattle.gd_cabinet.specs.Opening.{IsOpening, start_of, view_started}
 use Rattle.gd_cabinet.specs.Shown.{shows, IsInBoth, ShowsEither}
 use Rattle.gd_cabinet.proofs.Showing.{settled_shows}
 use Rattle.gd_disk.specs.Disk.{DiskState, IfTold, IsSynced, Loses, Unchanged}
 use Rattle.gd_disk.specs.Runs.{LeavesOnly}
-use Rattle.gd_store.specs.Copy.{chosen, copy_a, copy_b, state_of, stored_payload}
+use Rattle.gd_store.specs.Copy.{latest_copy, copy_a, copy_b, state_of, stored_payload}
 use Rattle.gd_store.specs.declared.copy.states.CopyState.{CopyState}
 use Rattle.gd_store.specs.declared.copy.layout.TheConstants.{LAYOUT}
 use Rattle.gd_store.proofs.Sealed.{same_bytes}
@@ -17,10 +17,10 @@ use Rattle.gd_top.specs.Carrying.{ShowsNear}
 use Rattle.gd_top.specs.Running.{IsSettled}
 use Rattle.gd_top.specs.Starts.{IsShown, KeepsShown}
 
-both_boot : (m : ℕ) (p : List ℕ) (s t : CopyState) (q r : List ℕ) → s ≡ CopyState.Sound m → t ≡ CopyState.Sound m → q ≡ p → r ≡ p → chosen s t q r ≡ Some (m, p)
+both_boot : (m : ℕ) (p : List ℕ) (s t : CopyState) (q r : List ℕ) → s ≡ CopyState.Sound m → t ≡ CopyState.Sound m → q ≡ p → r ≡ p → latest_copy s t q r ≡ Some (m, p)
 both_boot m p s t q r is_s is_t is_q is_r =
     let same = same_bytes p p refl in
-    let plain : chosen (CopyState.Sound m) (CopyState.Sound m) p p ≡ Some (m, p) = grind (arith, nat_tests, same) in
+    let plain : latest_copy (CopyState.Sound m) (CopyState.Sound m) p p ≡ Some (m, p) = grind (arith, nat_tests, same) in
     cc (plain, is_s, is_t, is_q, is_r)
 
 -- an image that has a view in both copies shows it
@@ -84,9 +84,9 @@ module _ {V : Type 0} (M : Machine V) (B : Blocks) where
       shown_is : (u : V) → IfTold mid.seen (λ seen. shows M seen ≡ Shows u) → u ≡ v
       shown_is u told = one_view M image v u shown (told_at mid.seen image (λ seen. shows M seen ≡ Shows u) seen told)
 
-      by_moment : IsOpening M B 0 mid c → ShowsEither M v (started M B 0 v) c
+      by_moment : IsOpening M B 0 mid c → ShowsEither M v (view_started M B 0 v) c
       by_moment (inl kept) = inl (kept.2 ∙ was kept.0 kept.1)
-      by_moment (inr other) = subst (λ (u : V). ShowsEither M u (started M B 0 u) c) (shown_is other.0 other.1) other.2
+      by_moment (inr other) = subst (λ (u : V). ShowsEither M u (view_started M B 0 u) c) (shown_is other.0 other.1) other.2
 
 -- ================ images that show a view
 

@@ -16,7 +16,7 @@ use Rattle.gd_disk.specs.Waits.{Waits, SyncsLeft, ByCalls, waits_for}
 use Rattle.gd_script.specs.declared.item.Item.{Item}
 use Rattle.gd_script.specs.Items.{order_event}
 use Rattle.gd_store.specs.declared.copy.states.Found.{Found}
-use Rattle.gd_store.specs.Repair.{Repair, repaired, syncs_of_repair}
+use Rattle.gd_store.specs.Repair.{Repair, repair_needed, syncs_of_repair}
 use Rattle.gd_top.specs.Items.{below_limit, at_limit, in_trial, with_power, next_numbered, event_told, order_of, again_told, off_told, rested, on_told, alter_told, clear_told, item_told, one_more, line_told, lines_told}
 use Rattle.gd_top.specs.Legal.{OneLegalHistory, OneLegalHistoryOverImages}
 use Rattle.gd_top.specs.Life.{unopened, run_told, view_found, made_memory}
@@ -164,7 +164,7 @@ locked_ok {V} M B again K Cleared s h = make_ok M B again K s h
 found_ok : {V : Type 0} (M : Machine V) (B : Blocks) (again : Reopening V) → Keeps M B again → (sp : Spelled V) (f : Found) (fl : Flight) (w : Wanted) (s : State V) → InFlight M B fl s → Ok M B s → Ok M B (found_open M B again sp f fl w s).state
 found_ok {V} M B again K Unreadable f fl w s n h = locked_ok M B again K w (locked fl s) h
 found_ok {V} M B again K (Foreign kept) f fl w s n h = h
-found_ok {V} M B again K (Shows v) f fl w s n h = opened_ok M B again K (repaired f) w (resolved M fl v s) (resolved_ok M B fl v s n h)
+found_ok {V} M B again K (Shows v) f fl w s n h = opened_ok M B again K (repair_needed f) w (resolved M fl v s) (resolved_ok M B fl v s n h)
 
 flight_same : {V : Type 0} (M : Machine V) (B : Blocks) (fl : Flight) (s u : State V) → Same s u → InFlight M B fl s → InFlight M B fl u
 flight_same M B Nothing s u e n = tt

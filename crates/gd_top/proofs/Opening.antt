@@ -10,11 +10,11 @@ use Rattle.gd_base.specs.Judging.Machine.{Machine, Blocks}
 use Rattle.gd_base.specs.Payloads.LoadedView.{opens}
 use Rattle.gd_base.specs.Payloads.Spelled.{Spelled, Shows}
 use Rattle.gd_base.proofs.AnswerLemmas.Answer.{answer_new, answer_full}
-use Rattle.gd_cabinet.specs.Opening.{start_of, started}
+use Rattle.gd_cabinet.specs.Opening.{start_of, view_started}
 use Rattle.gd_cabinet.specs.Shown.{shows}
 use Rattle.gd_disk.specs.Disk.{DiskState}
 use Rattle.gd_store.specs.Copy.{found_in}
-use Rattle.gd_store.specs.Repair.{Repair, repaired, syncs_of_repair}
+use Rattle.gd_store.specs.Repair.{Repair, repair_needed, syncs_of_repair}
 use Rattle.gd_store.specs.declared.copy.states.Found.{Found}
 use Rattle.gd_store.specs.declared.copy.layout.TheConstants.{LAYOUT}
 use Rattle.gd_top.specs.Carrying.{Standing, Unseen, Outside, Moves, FoundSince, CarriesBy, IsOver, ShowsNear, GivesText, at, finds, standing, IsWhole}
@@ -42,7 +42,7 @@ module _ {V : Type 0} (M : Machine V) (B : Blocks) where
   view_by false v = M.effect v (next_entry M B 0 v Event.Start)
 
   -- it is the view that the cabinet has
-  start_by : (full : Bool) (v : V) → is_full M v ≡ full → started M B 0 v ≡ view_by full v
+  start_by : (full : Bool) (v : V) → is_full M v ≡ full → view_started M B 0 v ≡ view_by full v
   start_by true v e =
       let s = start_of M v in
       ap (λ a. after_answer M v s (draw_of M B 0 v s.event) a) (answer_full M v s refl (no_room v e))
@@ -81,7 +81,7 @@ module _ {V : Type 0} (M : Machine V) (B : Blocks) where
     line = power_line (n + 1) start.found
 
     abbrev repair : Repair
-    repair = repaired start.found
+    repair = repair_needed start.found
 
     -- the opening, by whether the history was full
     abbrev offered_by : Bool → Unseen V → Told V
@@ -109,7 +109,7 @@ module _ {V : Type 0} (M : Machine V) (B : Blocks) where
         ∙ ap (λ (u : List ℕ). told (line ++ u) (at (standing (view_by false v) On lines (n + 1)) ((opening_moves false v repair).moved x))) (append-nil (start_line (M.count (view_by false v)) repair))
 
     -- a power-on that finds the view, and the start over it
-    pub opening_is_told : (w : V) → w ≡ started M B 0 v → (x : Unseen V) → IsWhole x.broken_at (x.offers + (opening_moves (is_full M v) v repair).made)
+    pub opening_is_told : (w : V) → w ≡ view_started M B 0 v → (x : Unseen V) → IsWhole x.broken_at (x.offers + (opening_moves (is_full M v) v repair).made)
         → power_on M B Nothing Done (at was (finds (start ∷ []) x))
         ≡ told (line ++ start_text (is_full M v) (M.count w) repair) (at (standing w On lines (n + 1)) ((opening_moves (is_full M v) v repair).moved x))
     opening_is_told w is x whole =
@@ -160,14 +160,14 @@ module _ {V : Type 0} (M : Machine V) (B : Blocks) where
 
   -- its lines were given, or a front of them
   pub opened_by : (r : Step) (v w : V) (image : List ℕ) (found : Found) (lines n : ℕ) (u o : Outside) (disk : DiskState) → shows M image ≡ Shows v → o.found ≡ u.found ++ image ∷ [] → found ≡ found_in LAYOUT image
-      → w ≡ started M B 0 v → ShowsNear M B w disk → GivesText r u.taken o.taken (power_line (n + 1) found ++ start_text (is_full M v) (M.count w) (repaired found))
+      → w ≡ view_started M B 0 v → ShowsNear M B w disk → GivesText r u.taken o.taken (power_line (n + 1) found ++ start_text (is_full M v) (M.count w) (repair_needed found))
       → CarriesBy r M B (power_on M B Nothing Done) (standing v Off lines n) (standing w On lines (n + 1)) u o disk
   opened_by Step.Goes v w image found lines n u o disk shown listed read is near gives = record {
     since = image ∷ [];
     listed = listed;
-    report = power_line (n + 1) (found_in LAYOUT image) ++ start_text (is_full M v) (M.count w) (repaired (found_in LAYOUT image));
-    printed = subst (λ (f : Found). Appends u.taken o.taken (power_line (n + 1) f ++ start_text (is_full M v) (M.count w) (repaired f))) read gives;
-    moves = opening_moves (is_full M v) v (repaired (found_in LAYOUT image));
+    report = power_line (n + 1) (found_in LAYOUT image) ++ start_text (is_full M v) (M.count w) (repair_needed (found_in LAYOUT image));
+    printed = subst (λ (f : Found). Appends u.taken o.taken (power_line (n + 1) f ++ start_text (is_full M v) (M.count w) (repair_needed f))) read gives;
+    moves = opening_moves (is_full M v) v (repair_needed (found_in LAYOUT image));
     tells = λ x whole. opening_is_told (start_in M image) v shown lines n w is x whole;
   }
   opened_by Step.Stops v w image found lines n u o disk shown listed read is near gives = absurd gives
@@ -178,9 +178,9 @@ module _ {V : Type 0} (M : Machine V) (B : Blocks) where
     last = w;
     tells = λ x none.
         let start = start_in M image in
-        let e = sym (opening_is_told start v shown lines n w is x (whole_always x.broken_at (x.offers + (opening_moves (is_full M v) v (repaired start.found)).made) none)) in (
+        let e = sym (opening_is_told start v shown lines n w is x (whole_always x.broken_at (x.offers + (opening_moves (is_full M v) v (repair_needed start.found)).made) none)) in (
           subst (AppendsFront u.taken o.taken) (ap (λ (t : Told V). t.report) e)
-              (subst (λ (f : Found). AppendsFront u.taken o.taken (power_line (n + 1) f ++ start_text (is_full M v) (M.count w) (repaired f))) read gives),
+              (subst (λ (f : Found). AppendsFront u.taken o.taken (power_line (n + 1) f ++ start_text (is_full M v) (M.count w) (repair_needed f))) read gives),
           subst (λ (t : Told V). IsOver w t.state) e (record { view = refl; no_other = refl }),
         );
     near = near;

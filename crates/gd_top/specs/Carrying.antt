@@ -6,7 +6,7 @@ use Rattle.gd_base.specs.Outside.Causes.{AppendsFront}
 use Rattle.gd_base.specs.Histories.Entry.{Entry}
 use Rattle.gd_base.specs.Judging.Machine.{Machine, Blocks}
 use Rattle.gd_base.specs.declared.step.Numbered.{Numbered}
-use Rattle.gd_cabinet.specs.Answered.{offered}
+use Rattle.gd_cabinet.specs.Answered.{view_offered}
 use Rattle.gd_cabinet.specs.Shown.{ShowsEither}
 use Rattle.gd_disk.specs.Disk.{DiskState}
 use Rattle.gd_top.specs.Offers.{is_broken}
@@ -74,7 +74,7 @@ outside disk taken = record { found = disk.found; taken = taken }
 
 -- each image that may be found shows the view, or the view after an event that was offered
 abbrev pub ShowsNear : {V : Type 0} → Machine V → Blocks → V → DiskState → Type 0
-ShowsNear M B v disk = (image : List ℕ) → disk.may_find image → (e : Numbered) × ShowsEither M v (offered M B 0 v e) image
+ShowsNear M B v disk = (image : List ℕ) → disk.may_find image → (e : Numbered) × ShowsEither M v (view_offered M B 0 v e) image
 
 -- ================ faults of the disk
 

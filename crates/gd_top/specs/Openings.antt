@@ -12,7 +12,7 @@ use Rattle.gd_base.specs.Payloads.LoadedView.{opens}
 use Rattle.gd_base.specs.Payloads.Spelled.{Spelled, Shows, Foreign, Unreadable}
 use Rattle.gd_disk.specs.declared.side.Side.{Side}
 use Rattle.gd_store.specs.declared.copy.states.Found.{Found}
-use Rattle.gd_store.specs.Repair.{Repair, repaired, syncs_of_repair}
+use Rattle.gd_store.specs.Repair.{Repair, repair_needed, syncs_of_repair}
 use Rattle.gd_top.specs.Lines.{power_line, start_line, answer_line, step_line, full_line, locked_line, differs_line}
 use Rattle.gd_top.specs.Offers.{Fate, Whole, Fell, Broke, offer, counted, syncs_of_event, syncs_of_making}
 use Rattle.gd_top.specs.State.{Start, State, Mask, Told, On, Locked, Differs, Breaks, told, ends, before, with_entry, over}
@@ -163,7 +163,7 @@ locked_with M again Cleared s = make M again s
 abbrev pub found_open : {V : Type 0} → Machine V → Blocks → Reopening V → Spelled V → Found → Flight → Wanted → State V → Told V
 found_open M blocks again Unreadable found flight wanted s = before locked_line (locked_with M again wanted (locked flight s))
 found_open M blocks again (Foreign kept) found flight wanted s = ends Differs (differs_line kept M.digest) (counted 0 s)
-found_open M blocks again (Shows v) found flight wanted s = opened M blocks again (repaired found) wanted (resolved M flight v s)
+found_open M blocks again (Shows v) found flight wanted s = opened M blocks again (repair_needed found) wanted (resolved M flight v s)
 
 abbrev pub powered : {V : Type 0} → List (Start V) → State V → State V
 powered starts s = record s { power_ons = s.power_ons + 1; starts = starts }

@@ -1,6 +1,6 @@
 -- What the memory of a run holds, opened or closed.
 use Rattle.std.specs.Prelude.{ℕ, Bool, false}
-use Rattle.gd_cabinet.specs.Words.{cabinet_core, cabinet_disk, cabinet_draws, cabinet_lap, cabinet_stopped}
+use Rattle.gd_cabinet.specs.Cabinet.{cabinet_core, cabinet_disk, cabinet_draws, cabinet_lap, cabinet_stopped}
 use Rattle.gd_top.specs.State.{Phase, On, Off}
 use Rattle.gd_top.specs.declared.memory.Memory.{Memory}
 

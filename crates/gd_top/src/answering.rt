@@ -2,8 +2,8 @@
 
 ghost use Rattle.std.specs.Prelude.{◌≡◌, ◌≢◌, ℕ};
 ghost use Rattle.gd_base.specs.declared.step.Stepped.{Stepped as SteppedData};
-ghost use Rattle.gd_cabinet.specs.Answered.{answered};
-ghost use Rattle.gd_cabinet.specs.Words.{cabinet_core, cabinet_disk, cabinet_draws, cabinet_lap, cabinet_stopped};
+ghost use Rattle.gd_cabinet.specs.Answered.{cabinet_answer};
+ghost use Rattle.gd_cabinet.specs.Cabinet.{cabinet_core, cabinet_disk, cabinet_draws, cabinet_lap, cabinet_stopped};
 ghost use Rattle.gd_top.specs.Answered.{answer_text};
 ghost use Rattle.gd_top.specs.Carrying.{outside, standing, CarriesBy};
 ghost use Rattle.gd_top.specs.Items.{event_told};
@@ -20,7 +20,7 @@ use gd_disk::LabDisk;
 
 /// Writes the line of an answer over what stands in `text`.
 fn write_answer(text: &mut Text, e: &Numbered, told: &Answer)
-    ensures { (stepped : SteppedData) (count : ℕ) → told.now ≡ answered stepped count → text.new.bytes ≡ answer_text e.now stepped count }
+    ensures { (stepped : SteppedData) (count : ℕ) → told.now ≡ cabinet_answer stepped count → text.new.bytes ≡ answer_text e.now stepped count }
 {
     text.clear();
     match told {

@@ -1,7 +1,7 @@
 //! One line of a script, carried out.
 
 ghost use Rattle.std.specs.Prelude.{◌≡◌, ◌≢◌, ◌<◌, ℕ, true};
-ghost use Rattle.gd_cabinet.specs.Words.{cabinet_core, cabinet_disk, cabinet_draws, cabinet_lap, cabinet_stopped};
+ghost use Rattle.gd_cabinet.specs.Cabinet.{cabinet_core, cabinet_disk, cabinet_draws, cabinet_lap, cabinet_stopped};
 ghost use Rattle.gd_top.specs.Carrying.{outside, standing, CarriesBy};
 ghost use Rattle.gd_top.specs.Items.{item_told, line_told};
 ghost use Rattle.gd_top.specs.Running.{IsClosed, IsOpen, Leaves, Stands, Wrote};

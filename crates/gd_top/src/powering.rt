@@ -2,9 +2,9 @@
 
 ghost use Rattle.std.specs.Prelude.{◌≡◌, ◌<◌, ◌++◌, ℕ};
 ghost use Rattle.gd_base.specs.Judging.Answer.{is_full};
-ghost use Rattle.gd_cabinet.specs.Words.{cabinet_core, cabinet_disk, cabinet_draws, cabinet_lap, cabinet_stopped};
+ghost use Rattle.gd_cabinet.specs.Cabinet.{cabinet_core, cabinet_disk, cabinet_draws, cabinet_lap, cabinet_stopped};
 ghost use Rattle.gd_script.specs.declared.item.Item.{Item};
-ghost use Rattle.gd_store.specs.Repair.{repaired};
+ghost use Rattle.gd_store.specs.Repair.{repair_needed};
 ghost use Rattle.gd_top.specs.Carrying.{outside, standing, CarriesBy, GivesText};
 ghost use Rattle.gd_top.specs.Items.{item_told};
 ghost use Rattle.gd_top.specs.Lines.{power_line, start_text};
@@ -27,7 +27,7 @@ use gd_store::Found;
 /// Writes the line of power-on `number` and of its start over what stands in `text`. There is no start where the history
 /// was full.
 fn write_opening(text: &mut Text, number: u64, found: &Found, was_full: bool, count: u64)
-    ensures { text.new.bytes ≡ power_line number found.now ++ start_text was_full count (repaired found.now) }
+    ensures { text.new.bytes ≡ power_line number found.now ++ start_text was_full count (repair_needed found.now) }
 {
     text.clear();
     push_power_line(text, number, found);

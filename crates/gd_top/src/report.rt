@@ -2,7 +2,7 @@
 
 ghost use Rattle.std.specs.Prelude.{◌≡◌, ◌≤◌, ◌+◌, ◌++◌, if◌then◌else◌, length, codes, decimal};
 ghost use Rattle.arrayvec.specs.ArrayString.{array_string_len};
-ghost use Rattle.gd_store.specs.Repair.{repaired};
+ghost use Rattle.gd_store.specs.Repair.{repair_needed};
 ghost use Rattle.gd_top.specs.Lines.{answer_line, copy_text, full_line, power_line, repair_text, start_line, step_line};
 
 use gd_base::{Device, Reply, TEXT_LEN, Text, push_count_line, push_number, push_reply};
@@ -48,7 +48,7 @@ fn push_copy_state(text: &mut Text, state: CopyState)
 /// where one was. At most 41 bytes.
 pub(crate) fn push_start_line(text: &mut Text, n: u64, found: &Found)
     requires { array_string_len text.old + 41 ≤ TEXT_LEN }
-    ensures bytes { text.new.bytes ≡ text.old.bytes ++ start_line n (repaired found.now) }
+    ensures bytes { text.new.bytes ≡ text.old.bytes ++ start_line n (repair_needed found.now) }
     ensures room { array_string_len text.new ≤ array_string_len text.old + 41 }
 {
     text.push_str("start at ");
@@ -60,7 +60,7 @@ pub(crate) fn push_start_line(text: &mut Text, n: u64, found: &Found)
 /// Appends which copy is written anew where the two are found like this, or nothing. At most 11 bytes.
 fn push_repair(text: &mut Text, found: &Found)
     requires { array_string_len text.old + 11 ≤ TEXT_LEN }
-    ensures bytes { text.new.bytes ≡ text.old.bytes ++ repair_text (repaired found.now) }
+    ensures bytes { text.new.bytes ≡ text.old.bytes ++ repair_text (repair_needed found.now) }
     ensures room { array_string_len text.new ≤ array_string_len text.old + 11 }
 {
     match (found.a, found.b) {

@@ -2,8 +2,11 @@
 
 use gd_disk::{COPY_LEN, PAGE_COUNT, Side};
 
+/// The gate of a copy that is open. Any other byte shuts it.
+pub(crate) const OPEN: u8 = 0xA5;
+
 /// Where two copies stand on a disk, and what their headers say of their form.
-#[derive(Clone, Copy, Debug, PartialEq, Eq, Drop)]
+#[derive(Clone, Copy, PartialEq, Eq, Debug, Drop)]
 pub struct Layout {
     /// The version of the format.
     pub version: u16,
@@ -19,7 +22,7 @@ impl Layout {
     ghost use Rattle.std.specs.Prelude.{◌≡◌};
     ghost use Rattle.gd_store.specs.Copy.{gate_at};
 
-    // The place of a copy's gate.
+    /// The place of a copy's gate.
     pub(crate) fn gate_of(self, side: Side) -> u64
         ensures { result ≡ gate_at self side }
     {
@@ -37,3 +40,11 @@ pub const LAYOUT: Layout = Layout {
     a: 0,
     b: COPY_LEN as u64,
 };
+
+const _: () = prove!(LAYOUT.version == 0);
+
+const _: () = prove!(LAYOUT.pages == 32);
+
+const _: () = prove!(LAYOUT.a == 0);
+
+const _: () = prove!(LAYOUT.b == 17_457);

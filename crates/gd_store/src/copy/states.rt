@@ -1,7 +1,7 @@
 //! What the two copies of a disk are found to be.
 
 /// Why a copy isn't sound: the first of these that applies.
-#[derive(Clone, Copy, Debug, PartialEq, Eq, Drop)]
+#[derive(Clone, Copy, PartialEq, Eq, Debug, Drop)]
 pub enum Why {
     /// Its gate isn't open.
     Shut,
@@ -14,7 +14,7 @@ pub enum Why {
 }
 
 /// What a copy is found to be.
-#[derive(Clone, Copy, Debug, PartialEq, Eq, Drop)]
+#[derive(Clone, Copy, PartialEq, Eq, Debug, Drop)]
 pub enum CopyState {
     /// It is as it was sealed, at this sequence.
     Sound(u64),
@@ -22,7 +22,7 @@ pub enum CopyState {
 }
 
 /// The states of the two copies of a disk.
-#[derive(Clone, Copy, Debug, PartialEq, Eq, Drop)]
+#[derive(Clone, Copy, PartialEq, Eq, Debug, Drop)]
 pub struct Found {
     pub a: CopyState,
     pub b: CopyState,

@@ -7,16 +7,18 @@ ghost use Rattle.gd_disk.specs.Runs.{LeavesOnly};
 ghost use Rattle.gd_store.specs.Writing.{seen_shut, IsShutting, IsShut, IsOverOpen, IsWriting, From, IsCommitting};
 ghost use Rattle.gd_store.specs.Copy.{HoldsBoth, LiesWithin, boots, copy_len};
 
+use super::layout::OPEN;
 use super::sealing::seal_body;
 use crate::Layout;
 use gd_disk::{Disk, Off, PAGE_LEN};
 
-// Writes, and keeps it by a sync.
+/// Writes, and keeps it by a sync.
 fn write_synced<D: Disk>(disk: &mut D, at: u64, bytes: &[u8]) -> Result<(), Off>
     requires { at + length bytes.now ≤ (D.state disk.old).size }
     ensures seen { OnOk result ((D.state disk.new).seen ≡ seen_with_bytes at bytes.now (D.state disk.old).seen) }
     ensures synced { OnOk result (IsSynced (D.state disk.new)) }
-    ensures any_moment { LeavesOnly (D.state disk.old) (D.state disk.new) (From (D.state disk.old) (Torn at (length bytes.now))) }
+    ensures any_moment { LeavesOnly (D.state disk.old) (D.state disk.new) (From
+        (D.state disk.old) (Torn at (length bytes.now))) }
     ensures answer { Answers result (D.state disk.old) (D.state disk.new) }
     ensures fewer { OnErr result ((D.state disk.new).syncs < (D.state disk.old).syncs + 1) }
     ensures run { RunOf 1 result (D.state disk.old) (D.state disk.new) }
@@ -26,11 +28,9 @@ fn write_synced<D: Disk>(disk: &mut D, at: u64, bytes: &[u8]) -> Result<(), Off>
     disk.sync()
 }
 
-pub(crate) const OPEN: u8 = 0xA5;
-
 const SHUT: u8 = 0;
 
-// Shuts a gate that is open. The sync is made all the same.
+/// Shuts a gate that is open. The sync is made all the same.
 fn shut<D: Disk>(disk: &mut D, at: u64, gate: u8) -> Result<(), Off>
     requires within { at + 1 ≤ (D.state disk.old).size }
     requires synced { IsSynced (D.state disk.old) }
@@ -51,14 +51,15 @@ fn shut<D: Disk>(disk: &mut D, at: u64, gate: u8) -> Result<(), Off>
     }
 }
 
-// Writes over a gate that is open. No sync is made.
+/// Writes over a gate that is open. No sync is made.
 pub(crate) fn shut_open<D: Disk>(disk: &mut D, at: u64, gate: u8) -> Result<(), Off>
     requires within { at + 1 ≤ (D.state disk.old).size }
     requires on { (D.state disk.old).is_on ≡ true }
     requires gate { IfTold (D.state disk.old).seen (λ image. slice_index image at ≡ gate) }
     ensures seen { OnOk result ((D.state disk.new).seen ≡ seen_shut at gate (D.state disk.old).seen) }
     ensures shut { OnOk result (IfTold (D.state disk.new).seen (IsShut at)) }
-    ensures any_moment { LeavesOnly (D.state disk.old) (D.state disk.new) (From (D.state disk.old) (IsOverOpen at gate)) }
+    ensures any_moment { LeavesOnly (D.state disk.old) (D.state disk.new) (From
+        (D.state disk.old) (IsOverOpen at gate)) }
     ensures answer { Answers result (D.state disk.old) (D.state disk.new) }
     ensures syncs { (D.state disk.new).syncs ≡ (D.state disk.old).syncs }
     ensures run { RunOf 0 result (D.state disk.old) (D.state disk.new) }
@@ -70,7 +71,7 @@ pub(crate) fn shut_open<D: Disk>(disk: &mut D, at: u64, gate: u8) -> Result<(), 
     Ok(())
 }
 
-// Writes a copy over one that is shut: its body, and then its gate, each kept by a sync.
+/// Writes a copy over one that is shut: its body, and then its gate, each kept by a sync.
 pub(crate) fn write_shut<D: Disk>(disk: &mut D, at: u64, body: &[u8]) -> Result<(), Off>
     requires within { at + 1 + length body.now ≤ (D.state disk.old).size }
     requires bounded { (D.state disk.old).size < 2 ^ 64 }
@@ -78,7 +79,8 @@ pub(crate) fn write_shut<D: Disk>(disk: &mut D, at: u64, body: &[u8]) -> Result<
     requires shut { IfTold (D.state disk.old).seen (IsShut at) }
     ensures seen { OnOk result ((D.state disk.new).seen ≡ seen_with_bytes at (OPEN ∷ body.now) (D.state disk.old).seen) }
     ensures synced { OnOk result (IsSynced (D.state disk.new)) }
-    ensures any_moment { LeavesOnly (D.state disk.old) (D.state disk.new) (From (D.state disk.old) (IsWriting at (OPEN ∷ body.now))) }
+    ensures any_moment { LeavesOnly (D.state disk.old) (D.state disk.new) (From
+        (D.state disk.old) (IsWriting at (OPEN ∷ body.now))) }
     ensures answer { Answers result (D.state disk.old) (D.state disk.new) }
     ensures fewer { OnErr result ((D.state disk.new).syncs < (D.state disk.old).syncs + 2) }
     ensures run { RunOf 2 result (D.state disk.old) (D.state disk.new) }
@@ -88,7 +90,7 @@ pub(crate) fn write_shut<D: Disk>(disk: &mut D, at: u64, body: &[u8]) -> Result<
     write_synced(disk, at, &[OPEN])
 }
 
-// Writes a copy over another: shuts its gate, writes its body, and opens the gate, each kept by a sync.
+/// Writes a copy over another: shuts its gate, writes its body, and opens the gate, each kept by a sync.
 pub(crate) fn write_copy<D: Disk>(disk: &mut D, at: u64, gate: u8, body: &[u8]) -> Result<(), Off>
     requires within { at + 1 + length body.now ≤ (D.state disk.old).size }
     requires bounded { (D.state disk.old).size < 2 ^ 64 }
@@ -96,7 +98,8 @@ pub(crate) fn write_copy<D: Disk>(disk: &mut D, at: u64, gate: u8, body: &[u8]) 
     requires gate { IfTold (D.state disk.old).seen (λ image. slice_index image at ≡ gate) }
     ensures seen { OnOk result ((D.state disk.new).seen ≡ seen_with_bytes at (OPEN ∷ body.now) (D.state disk.old).seen) }
     ensures synced { OnOk result (IsSynced (D.state disk.new)) }
-    ensures any_moment { LeavesOnly (D.state disk.old) (D.state disk.new) (From (D.state disk.old) (IsWriting at (OPEN ∷ body.now))) }
+    ensures any_moment { LeavesOnly (D.state disk.old) (D.state disk.new) (From
+        (D.state disk.old) (IsWriting at (OPEN ∷ body.now))) }
     ensures answer { Answers result (D.state disk.old) (D.state disk.new) }
     ensures fewer { OnErr result ((D.state disk.new).syncs < (D.state disk.old).syncs + 3) }
     ensures run { RunOf 3 result (D.state disk.old) (D.state disk.new) }
@@ -106,7 +109,7 @@ pub(crate) fn write_copy<D: Disk>(disk: &mut D, at: u64, gate: u8, body: &[u8]) 
     write_shut(disk, at, body)
 }
 
-// Writes the next payload over both copies of the old one.
+/// Writes the next payload over both copies of the old one.
 pub(crate) fn write_both<D: Disk>(
     disk: &mut D,
     layout: Layout,
@@ -126,7 +129,8 @@ pub(crate) fn write_both<D: Disk>(
     ensures holds { OnOk result (IfTold (D.state disk.new).seen (HoldsBoth layout (sequence + 1) payload.now)) }
     ensures any_moment { LeavesOnly (D.state disk.old) (D.state disk.new)
         (λ c. (boots layout c ≡ Some (sequence, kept.now)) ⊎ (boots layout c ≡ Some (sequence + 1, payload.now))) }
-    ensures order { LeavesOnly (D.state disk.old) (D.state disk.new) (IsCommitting layout (sequence, kept.now) (sequence + 1, payload.now)) }
+    ensures order { LeavesOnly (D.state disk.old)
+        (D.state disk.new) (IsCommitting layout (sequence, kept.now) (sequence + 1, payload.now)) }
     ensures answer { Answers result (D.state disk.old) (D.state disk.new) }
     ensures fewer { OnErr result ((D.state disk.new).syncs < (D.state disk.old).syncs + 6) }
     ensures run { RunOf 6 result (D.state disk.old) (D.state disk.new) }

@@ -1,6 +1,6 @@
 use Rattle.std.proofs.Common.{◌≡◌, subst, ◌+◌, ◌*◌, ◌-◌, ℕ, List, length, take, drop, arith}
-use Rattle.gd_store.specs.Copy.{chosen, stored_payload, copy_len}
-use Rattle.gd_store.specs.Choice.{spelled}
+use Rattle.gd_store.specs.Copy.{latest_copy, stored_payload, copy_len}
+use Rattle.gd_store.specs.Choice.{choice_meaning}
 use Rattle.gd_store.proofs.Pages.{slice_payload}
 use Rattle.gd_disk.proofs.WholeRuns.{of_read, run_on, run_fails, run_gives}
 use Rattle.gd_disk.specs.declared.lengths.TheConstants.{DIGEST_LEN, FRAME_LEN}
@@ -17,8 +17,8 @@ returns-clause-choice g c =
     let r = c.choose-choice.result in
     let long_a : length a ≡ copy_len l.pages = omega (arith, c.read.auto.into, c.requires.a_len) in
     let long_b : length b ≡ copy_len l.pages = omega (arith, c.read-2.auto.into, c.requires.b_len) in
-    subst (λ (p : List ℕ). spelled r p (stored_payload l b) ≡ chosen s t p (stored_payload l b)) (slice_payload l a long_a)
-    (subst (λ (q : List ℕ). spelled r (take (length a - first) (drop first a)) q ≡ chosen s t (take (length a - first) (drop first a)) q) (slice_payload l b long_b) c.choose-choice.ensures)
+    subst (λ (p : List ℕ). choice_meaning r p (stored_payload l b) ≡ latest_copy s t p (stored_payload l b)) (slice_payload l a long_a)
+    (subst (λ (q : List ℕ). choice_meaning r (take (length a - first) (drop first a)) q ≡ latest_copy s t (take (length a - first) (drop first a)) q) (slice_payload l b long_b) c.choose-choice.ensures)
 
 pub returns-in_err-read-clause-run : goal.returns-in_err-read-clause-run
 returns-in_err-read-clause-run g c =

@@ -1,9 +1,9 @@
 use Rattle.std.proofs.Common.{◌≡◌, ◌∙◌, ◌+◌, ap, sym, subst, refl, ℕ, [], arith, Option, Some}
 use Rattle.std.proofs.KnownBytes.{Appends-nil}
 use Rattle.gd_base.specs.Judging.Answer.{answer}
-use Rattle.gd_cabinet.specs.Answered.{offered}
+use Rattle.gd_cabinet.specs.Answered.{view_offered}
 use Rattle.gd_cabinet.specs.Shown.{ShowsEither}
-use Rattle.gd_cabinet.specs.Words.{cabinet_core, cabinet_disk, cabinet_draws, cabinet_lap}
+use Rattle.gd_cabinet.specs.Cabinet.{cabinet_core, cabinet_disk, cabinet_draws, cabinet_lap}
 use Rattle.gd_disk.proofs.Runs.{at_end}
 use Rattle.gd_top.specs.Answered.{answer_text}
 use Rattle.gd_top.specs.Carrying.{GivesText, at, standing, outside}
@@ -26,7 +26,7 @@ returns-in-Ok-clause-carried g c =
     let new = g.L.Disk.state (cabinet_disk c.submit.new.self) in
     let e = c.args.e.now in
     let a = answer M v e in
-    let after : w ≡ offered M B 0 v e = c.in-Ok.ensures.view ∙ ap (λ (lap : ℕ). offered M B lap v e) c.requires.open.first_lap in
+    let after : w ≡ view_offered M B 0 v e = c.in-Ok.ensures.view ∙ ap (λ (lap : ℕ). view_offered M B lap v e) c.requires.open.first_lap in
     let gives = subst (GivesText c.give_text.result _ _) (c.write_answer.ensures a (M.count w) c.in-Ok.ensures.answer) c.give_text.ensures.given in
     λ lines power_ons.
     said M B c.give_text.result (event_told M B e) (standing v On lines power_ons) (standing w On lines power_ons) (outside old (g.K.Sink.taken c.args.output.now)) (outside new (g.K.Sink.taken c.give_text.new.output)) new
@@ -58,8 +58,8 @@ returns-in-Err-clause-carried g c =
             record { view = refl; no_other = refl },
           );
       near = λ image may.
-          let shown = at_end old new (ShowsEither M v (offered M B (cabinet_lap cabinet) v e)) (c.in-Err.ensures.any_moment c.requires.open.runs) image may in
-          (e, subst (λ (n : ℕ). ShowsEither M v (offered M B n v e) image) c.requires.open.first_lap shown);
+          let shown = at_end old new (ShowsEither M v (view_offered M B (cabinet_lap cabinet) v e)) (c.in-Err.ensures.any_moment c.requires.open.runs) image may in
+          (e, subst (λ (n : ℕ). ShowsEither M v (view_offered M B n v e) image) c.requires.open.first_lap shown);
     }
 
 pub returns-in-Ok-clause-shown : goal.returns-in-Ok-clause-shown

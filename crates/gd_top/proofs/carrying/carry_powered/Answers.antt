@@ -1,6 +1,6 @@
 use Rattle.std.proofs.Common.{◌≡◌, ◌∙◌, ap, sym, subst, refl}
 use Rattle.gd_base.specs.declared.step.Numbered.{Numbered}
-use Rattle.gd_cabinet.specs.Words.{cabinet_core, cabinet_disk, cabinet_draws}
+use Rattle.gd_cabinet.specs.Cabinet.{cabinet_core, cabinet_disk, cabinet_draws}
 use Rattle.gd_script.specs.declared.item.Item.{Item}
 use Rattle.gd_top.specs.Carrying.{GivesText, at, outside, standing}
 use Rattle.gd_top.specs.Items.{item_told, event_told}

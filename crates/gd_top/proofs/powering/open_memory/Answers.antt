@@ -1,9 +1,9 @@
 use Rattle.std.proofs.Common.{◌≡◌, ◌∙◌, ◌++◌, ap, sym, subst, ℕ, Bool, append-nil, [], ◌+◌}
 use Rattle.std.proofs.KnownBytes.{Appends-nil}
 use Rattle.gd_base.specs.Judging.Answer.{is_full}
-use Rattle.gd_cabinet.specs.Words.{cabinet_core, cabinet_disk}
-use Rattle.gd_cabinet.specs.Opening.{started}
-use Rattle.gd_store.specs.Repair.{repaired}
+use Rattle.gd_cabinet.specs.Cabinet.{cabinet_core, cabinet_disk}
+use Rattle.gd_cabinet.specs.Opening.{view_started}
+use Rattle.gd_store.specs.Repair.{repair_needed}
 use Rattle.gd_top.specs.Carrying.{standing, outside, GivesText}
 use Rattle.gd_top.specs.Lines.{power_line, start_text}
 use Rattle.gd_top.specs.State.{Off}
@@ -25,10 +25,10 @@ returns-in-Ready-clause-carried g c =
     let h = c.in-Ok.ensures.found in
     let shown = holds_shows M v h.image (c.requires.closed.both h.image h.could_be) in
     let told = told_at on.seen h.image _ h.seen c.in-Ready.ensures.what in
-    let is : w ≡ started M B 0 v = told.1.2 ∙ ap (λ u. started M B 0 u) (one_view M h.image v told.1.0 shown told.1.1) in
+    let is : w ≡ view_started M B 0 v = told.1.2 ∙ ap (λ u. view_started M B 0 u) (one_view M h.image v told.1.0 shown told.1.1) in
     let count = c.count.ensures.value ∙ ap (λ k. (g.C.Core.meaning k).count (g.C.Core.view k)) c.core.ensures ∙ ap (λ m. m.count w) c.in-Ready.ensures.meaning in
-    let text = c.write_opening.ensures ∙ ap (λ (b : Bool). power_line (n + 1) c.in-Ready.found ++ start_text b c.count.result (repaired c.in-Ready.found)) c.is_full-was_full.ensures
-    ∙ ap (λ (k : ℕ). power_line (n + 1) c.in-Ready.found ++ start_text (is_full M v) k (repaired c.in-Ready.found)) count in
+    let text = c.write_opening.ensures ∙ ap (λ (b : Bool). power_line (n + 1) c.in-Ready.found ++ start_text b c.count.result (repair_needed c.in-Ready.found)) c.is_full-was_full.ensures
+    ∙ ap (λ (k : ℕ). power_line (n + 1) c.in-Ready.found ++ start_text (is_full M v) k (repair_needed c.in-Ready.found)) count in
     λ lines.
     opened_by M B c.give_text.result v w h.image c.in-Ready.found lines n (outside (g.L.Disk.state parts.disk) (g.K.Sink.taken c.args.output.now)) (outside disk (g.K.Sink.taken c.give_text.new.output)) disk
     shown (c.in-Ready.ensures.found ∙ h.listed) told.0 is (both_near M B w disk c.in-Ready.ensures.both)

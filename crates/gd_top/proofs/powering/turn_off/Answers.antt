@@ -1,5 +1,5 @@
 use Rattle.std.proofs.Common.{◌≡◌, ◌∙◌, ap, sym, subst, codes, List, ℕ, ◌++◌}
-use Rattle.gd_cabinet.specs.Words.{cabinet_core, cabinet_disk, cabinet_draws}
+use Rattle.gd_cabinet.specs.Cabinet.{cabinet_core, cabinet_disk, cabinet_draws}
 use Rattle.gd_script.specs.declared.item.Item.{Item}
 use Rattle.gd_top.specs.Carrying.{standing, outside, at, GivesText}
 use Rattle.gd_top.specs.Items.{item_told}

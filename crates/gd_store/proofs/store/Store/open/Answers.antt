@@ -3,7 +3,7 @@ use Rattle.gd_store.proofs.Openings.{kept_boot, reads_keep_boot, still_synced, t
 use Rattle.gd_disk.proofs.WholeRuns.{run_on, run_fails, after_none}
 use Rattle.gd_disk.specs.CutRuns.{RunOf}
 use Rattle.gd_store.specs.Opening.{repairs_of}
-use Rattle.gd_store.specs.Repair.{repaired, syncs_of_repair}
+use Rattle.gd_store.specs.Repair.{repair_needed, syncs_of_repair}
 use Rattle.std.proofs.Common.{ℕ, Err, ◌+◌, ◌≤◌, arith, refl}
 use Rattle.gd_store.proofs.store.Store.open.Goals as goal
 
@@ -31,21 +31,21 @@ returns-in-Err-clause-run g c =
     let old = g.D.Disk.state c.args.disk in
     let mid = g.D.Disk.state c.boot.new.disk in
     let new = g.D.Disk.state c.repair.new.disk in
-    let k = syncs_of_repair (repaired c.in-Ready.found) in
+    let k = syncs_of_repair (repair_needed c.in-Ready.found) in
     by_found LAYOUT old c.in-Ready.found c.in-Ready.sequence c.boot.new.room.payload.items (λ (n : ℕ). RunOf {T = Unit {0}} {E = Unit {0}} n (Err tt) old new) c.in-Ready.ensures.what
     (run_fails (0 + k) k c.in-Err.field-0 (Err tt) old new refl (omega arith) (run_on 0 k _ old mid new c.in-Ready.ensures.answer.was_on c.in-Ready.ensures.answer.stays_on c.in-Ready.ensures.run.whole c.in-Err.ensures.run))
 
 pub returns-in-Ok-clause-answer_run : goal.returns-in-Ok-clause-answer_run
 returns-in-Ok-clause-answer_run g c =
-    after_none (syncs_of_repair (repaired c.in-Ready.found)) (g.D.Disk.state c.args.disk) (g.D.Disk.state c.boot.new.disk) (g.D.Disk.state c.repair.new.disk) c.in-Ready.ensures.run.whole c.in-Ok.ensures.run.whole
+    after_none (syncs_of_repair (repair_needed c.in-Ready.found)) (g.D.Disk.state c.args.disk) (g.D.Disk.state c.boot.new.disk) (g.D.Disk.state c.repair.new.disk) c.in-Ready.ensures.run.whole c.in-Ok.ensures.run.whole
 
 pub returns-in-Err-clause-answer_run : goal.returns-in-Err-clause-answer_run
 returns-in-Err-clause-answer_run g c =
     let old = g.D.Disk.state c.args.disk in
     let mid = g.D.Disk.state c.boot.new.disk in
     let new = g.D.Disk.state c.repair.new.disk in
-    let k = syncs_of_repair (repaired c.in-Ready.found) in
-    let few : k ≤ 3 = few_syncs (repaired c.in-Ready.found) in
+    let k = syncs_of_repair (repair_needed c.in-Ready.found) in
+    let few : k ≤ 3 = few_syncs (repair_needed c.in-Ready.found) in
     run_fails (0 + k) 3 c.in-Err.field-0 (Err tt) old new refl (omega (arith, few)) (run_on 0 k _ old mid new c.in-Ready.ensures.answer.was_on c.in-Ready.ensures.answer.stays_on c.in-Ready.ensures.run.whole c.in-Err.ensures.run)
 
 pub returns-in-Off-clause-run : goal.returns-in-Off-clause-run

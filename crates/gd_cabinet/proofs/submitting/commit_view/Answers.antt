@@ -1,6 +1,6 @@
 use Rattle.gd_store.specs.Store.{store_disk, store_payload, store_sequence}
 use Rattle.gd_cabinet.proofs.OneEvent.{commit_moments}
-use Rattle.gd_cabinet.proofs.offering.keep.Goals as goal
+use Rattle.gd_cabinet.proofs.submitting.commit_view.Goals as goal
 
 pub returns-clause-any_moment : goal.returns-clause-any_moment
 returns-clause-any_moment g c =
