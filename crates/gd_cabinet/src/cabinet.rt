@@ -9,7 +9,7 @@ ghost use Rattle.gd_store.specs.declared.copy.layout.TheConstants.{LAYOUT};
 ghost use Rattle.gd_store.specs.Store.{store_disk, store_payload, store_sequence, store_stopped};
 
 use gd_base::{Core, Draws};
-use gd_disk::{CutUnit, Disk, LabDisk};
+use gd_disk::{CutUnit, Disk, LabDisk, MOST_CUTS, MOST_TORN};
 use gd_store::{Room, Store};
 
 /// What a cabinet is made of, and what is left of it when it is closed.
@@ -99,9 +99,9 @@ impl<C: Core, L: LabDisk, W: Draws> Cabinet<C, L, W> {
     /// Adds a cut behind the armed ones of the disk, as its own call does, and changes nothing else. It comes at call
     /// `count` of its unit, counted from 1 from when it is the first; `torn` says what it leaves.
     pub fn arm(&mut self, unit: CutUnit, count: u32, torn: u8)
-        requires room { length (L.state (cabinet_disk self.old)).armed < 256 }
+        requires room { length (L.state (cabinet_disk self.old)).armed < MOST_CUTS }
         requires count { 1 ≤ count }
-        requires torn { torn ≤ 3 }
+        requires torn { torn ≤ MOST_TORN }
         ensures armed { (L.state (cabinet_disk self.new)).armed
             ≡ (L.state (cabinet_disk self.old)).armed ++ record { unit = unit; count = count; torn = torn } ∷ [] }
         ensures power { (L.state (cabinet_disk self.new)).is_on ≡ (L.state (cabinet_disk self.old)).is_on }

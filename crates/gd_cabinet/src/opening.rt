@@ -243,14 +243,14 @@ impl<C: Core, D: Disk, W: Draws> Cabinet<C, D, W> {
                     draws,
                     room,
                 } = parts;
-                let load_answer = load_at(&mut core, room.payload(), sequence);
+                let loaded = load_at(&mut core, room.payload(), sequence);
                 let parts = Parts {
                     core,
                     disk,
                     draws,
                     room,
                 };
-                match load_answer {
+                match loaded {
                     Loaded::Read => open_store(parts, lap, found),
                     Loaded::Unreadable => CabinetOpened::Locked {
                         why: Locked::Unreadable,

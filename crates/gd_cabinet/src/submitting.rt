@@ -16,7 +16,7 @@ ghost use Rattle.gd_store.specs.Store.{store_disk, store_payload, store_sequence
 use crate::Cabinet;
 use gd_base::{Block, Core, Draws, Event, Numbered, PAYLOAD_LEN, Reply, Stepped};
 use gd_disk::{Disk, Off};
-use gd_store::{LAYOUT, Store};
+use gd_store::{LAYOUT, MOST_SEQUENCE, Store};
 
 /// The answer to an event that was offered.
 #[derive(Clone, Copy, PartialEq, Eq, Debug, Drop)]
@@ -139,7 +139,7 @@ fn draw_of<C: Core, W: Draws>(
 
 /// Commits what the core spells.
 fn commit_view<C: Core, D: Disk>(core: &C, store: &mut Store<D>) -> Result<(), Off>
-    requires room { store_sequence store.old < 2 ^ 36 }
+    requires room { store_sequence store.old < MOST_SEQUENCE }
     requires runs { store_stopped store.old ≡ false }
     requires count { (C.meaning core.now).count (C.view core.now) ≡ store_sequence store.old + 1 }
     ensures spelled { OnOk result ((C.meaning core.now).spelled (store_payload store.new) ≡ Shows (C.view core.now)) }

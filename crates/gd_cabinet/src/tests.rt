@@ -62,7 +62,7 @@ impl Core for Tally {
         self.count
     }
 
-    #[tactic(auto, unfolding(gd_base::specs::Answer::answer))]
+    #[tactic(auto, unfolding(gd_base::specs::Judging::Answer::answer))]
     fn step(&mut self, e: &Numbered, _draw: Option<(u64, Block)>) -> Stepped {
         if self.count != 0 && e.number == self.count {
             return Stepped::Again(Reply::Taken);

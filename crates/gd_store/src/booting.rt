@@ -12,7 +12,7 @@ ghost use Rattle.gd_store.specs.Reads.{HasReadBoth, HasReadFewer};
 ghost use Rattle.gd_store.specs.Room.{room_payload};
 ghost use Rattle.gd_store.specs.Writing.{From};
 
-use crate::copy::layout::OPEN;
+use crate::copy::layout::{MOST_PAGES, OPEN};
 use crate::copy::sealing::header_prefix;
 use crate::{CopyState, Found, LAYOUT, Layout, Room, Why};
 use gd_disk::{DIGEST_LEN, DIGESTS_AT, DISK_LEN, Disk, FRAME_LEN, Off, PAGE_LEN};
@@ -99,7 +99,7 @@ fn sequence(copy: &[u8]) -> u64
 /// The lowest page whose digest isn't the kept one.
 fn lowest_bad_page(layout: Layout, copy: &[u8]) -> Option<u8>
     requires length { length copy.now ≡ copy_len layout.pages }
-    requires pages { layout.pages ≤ 256 }
+    requires pages { layout.pages ≤ MOST_PAGES }
     ensures { result ≡ lowest_bad layout copy.now 0 layout.pages }
 {
     let pages = layout.pages as usize;
@@ -118,7 +118,7 @@ fn lowest_bad_page(layout: Layout, copy: &[u8]) -> Option<u8>
 #[tactic(auto, unfolding(crate::specs::Copy::state_of, crate::specs::Copy::stored_head, crate::specs::Copy::stored_seal))]
 pub(crate) fn state(layout: Layout, copy: &[u8]) -> CopyState
     requires length { length copy.now ≡ copy_len layout.pages }
-    requires pages { layout.pages ≤ 256 }
+    requires pages { layout.pages ≤ MOST_PAGES }
     ensures { result ≡ state_of layout copy.now }
 {
     if copy[0] != OPEN {
@@ -186,7 +186,7 @@ pub(crate) fn read_copies<D: Disk>(
     requires within { LiesWithin layout (D.state disk.old).size }
     requires a_len { length a.old ≡ copy_len layout.pages }
     requires b_len { length b.old ≡ copy_len layout.pages }
-    requires pages { layout.pages ≤ 256 }
+    requires pages { layout.pages ≤ MOST_PAGES }
     ensures copies { OnOk result (IfTold (D.state disk.old).seen (λ image. (a.new ≡ copy_a layout image)
         × (b.new ≡ copy_b layout image))) }
     ensures states { IfOk result (λ r. (r.a ≡ state_of layout a.new) × (r.b ≡ state_of layout b.new)) }

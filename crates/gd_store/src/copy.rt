@@ -5,5 +5,5 @@ pub(crate) mod sealing;
 mod states;
 pub(crate) mod writing;
 
-pub use layout::{LAYOUT, Layout};
+pub use layout::{LAYOUT, Layout, MOST_SEQUENCE};
 pub use states::{CopyState, Found, Why};

@@ -12,7 +12,7 @@ mod store;
 mod tests;
 
 pub use booting::{Booted, boot};
-pub use copy::{CopyState, Found, LAYOUT, Layout, Why};
+pub use copy::{CopyState, Found, LAYOUT, Layout, MOST_SEQUENCE, Why};
 pub use making::Made;
 pub use opening::Opened;
 pub use room::Room;

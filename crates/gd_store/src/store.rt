@@ -7,8 +7,8 @@ ghost use Rattle.gd_store.specs.declared.copy.layout.TheConstants.{LAYOUT};
 ghost use Rattle.gd_store.specs.Copy.{Holds};
 
 use crate::copy::writing::write_both;
-use crate::{LAYOUT, Room};
-use gd_disk::{CutUnit, Disk, LabDisk, Off, PAGE_COUNT, PAGE_LEN};
+use crate::{LAYOUT, MOST_SEQUENCE, Room};
+use gd_disk::{CutUnit, Disk, LabDisk, MOST_CUTS, MOST_TORN, Off, PAGE_COUNT, PAGE_LEN};
 
 /// A payload that both copies on a disk hold at one sequence, until a call to the disk fails. From then on nothing
 /// is committed.
@@ -58,7 +58,7 @@ impl<D: Disk> Store<D> {
         ensures settled { store_stopped self.now ≡ false → (image : List ℕ)
             → (D.state (store_disk self.now)).may_find image →
             HoldsBoth LAYOUT (store_sequence self.now) (store_payload self.now) image
-                × (boots LAYOUT image ≡ Some (store_sequence self.now, store_payload self.now)) }
+            × (boots LAYOUT image ≡ Some (store_sequence self.now, store_payload self.now)) }
     {
         self.is_stopped
     }
@@ -88,7 +88,7 @@ impl<D: Disk> Store<D> {
     /// that it had before.
     pub fn commit(&mut self, payload: &[u8]) -> Result<(), Off>
         requires length { length payload.now ≡ PAGE_LEN * PAGE_COUNT }
-        requires sequence { store_sequence self.old < 2 ^ 36 }
+        requires sequence { store_sequence self.old < MOST_SEQUENCE }
         ensures committed { OnOk result ((store_sequence self.new ≡ store_sequence self.old + 1)
             × (store_payload self.new ≡ payload.now) × (store_stopped self.new ≡ false)) }
         ensures stays { OnErr result ((store_sequence self.new ≡ store_sequence self.old)
@@ -97,11 +97,11 @@ impl<D: Disk> Store<D> {
             → IsErr result × ((D.state (store_disk self.old)).is_on ≡ false)
             × ((D.state (store_disk self.new)).stops ≡ next_count (D.state (store_disk self.old)).stops)
             × LeavesOnly (D.state (store_disk self.old)) (D.state (store_disk self.new)) (From
-                (D.state (store_disk self.old)) Unchanged) }
+            (D.state (store_disk self.old)) Unchanged) }
         ensures any_moment { store_stopped self.old ≡ false
             → LeavesOnly (D.state (store_disk self.old)) (D.state (store_disk self.new))
             (λ image. (boots LAYOUT image ≡ Some (store_sequence self.old, store_payload self.old))
-                ⊎ (boots LAYOUT image ≡ Some (store_sequence self.old + 1, payload.now))) }
+            ⊎ (boots LAYOUT image ≡ Some (store_sequence self.old + 1, payload.now))) }
         ensures order { store_stopped self.old ≡ false
             → LeavesOnly (D.state (store_disk self.old)) (D.state (store_disk self.new))
             (IsCommitting LAYOUT (store_sequence self.old, store_payload self.old) (store_sequence self.old + 1, payload.now)) }
@@ -145,9 +145,9 @@ impl<L: LabDisk> Store<L> {
     /// Adds a cut behind the armed ones of the disk, as its own call does, and changes nothing else. It comes at call
     /// `count` of its unit, counted from 1 from when it is the first; `torn` says what it leaves.
     pub fn arm(&mut self, unit: CutUnit, count: u32, torn: u8)
-        requires room { length (L.state (store_disk self.old)).armed < 256 }
+        requires room { length (L.state (store_disk self.old)).armed < MOST_CUTS }
         requires count { 1 ≤ count }
-        requires torn { torn ≤ 3 }
+        requires torn { torn ≤ MOST_TORN }
         ensures armed { (L.state (store_disk self.new)).armed
             ≡ (L.state (store_disk self.old)).armed ++ record { unit = unit; count = count; torn = torn } ∷ [] }
         ensures power { (L.state (store_disk self.new)).is_on ≡ (L.state (store_disk self.old)).is_on }

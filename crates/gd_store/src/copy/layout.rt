@@ -5,6 +5,12 @@ use gd_disk::{COPY_LEN, PAGE_COUNT, Side};
 /// The gate of a copy that is open. Any other byte shuts it.
 pub(crate) const OPEN: u8 = 0xA5;
 
+/// The greatest sequence, that of a full history: 2^36. A payload at it isn't followed by another.
+pub const MOST_SEQUENCE: u64 = 68_719_476_736;
+
+/// The most pages of a payload: a bad one is told by a byte.
+pub(crate) const MOST_PAGES: u16 = 256;
+
 /// Where two copies stand on a disk, and what their headers say of their form.
 #[derive(Clone, Copy, PartialEq, Eq, Debug, Drop)]
 pub struct Layout {
@@ -40,6 +46,10 @@ pub const LAYOUT: Layout = Layout {
     a: 0,
     b: COPY_LEN as u64,
 };
+
+const _: () = prove!(OPEN == 0xA5);
+
+const _: () = prove!(MOST_SEQUENCE == 1 << 36);
 
 const _: () = prove!(LAYOUT.version == 0);
 

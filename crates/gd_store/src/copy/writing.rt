@@ -7,9 +7,9 @@ ghost use Rattle.gd_disk.specs.Runs.{LeavesOnly};
 ghost use Rattle.gd_store.specs.Writing.{seen_shut, IsShutting, IsShut, IsOverOpen, IsWriting, From, IsCommitting};
 ghost use Rattle.gd_store.specs.Copy.{HoldsBoth, LiesWithin, boots, copy_len};
 
-use super::layout::OPEN;
-use super::sealing::seal_body;
-use crate::Layout;
+use crate::copy::layout::OPEN;
+use crate::copy::sealing::seal_body;
+use crate::{Layout, MOST_SEQUENCE};
 use gd_disk::{Disk, Off, PAGE_LEN};
 
 /// Writes, and keeps it by a sync.
@@ -122,7 +122,7 @@ pub(crate) fn write_both<D: Disk>(
     requires kept { length kept.now ≡ PAGE_LEN * layout.pages }
     requires length { length payload.now ≡ PAGE_LEN * layout.pages }
     requires body { length body.old + 1 ≡ copy_len layout.pages }
-    requires sequence { sequence < 2 ^ 36 }
+    requires sequence { sequence < MOST_SEQUENCE }
     requires synced { IsSynced (D.state disk.old) }
     requires holds { IfTold (D.state disk.old).seen (HoldsBoth layout sequence kept.now) }
     ensures synced { OnOk result (IsSynced (D.state disk.new)) }

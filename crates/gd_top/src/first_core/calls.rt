@@ -48,7 +48,7 @@ impl FirstCore {
     }
 
     /// Whether an event is new.
-    #[tactic(auto, unfolding(gd_base::specs::Answer::answer))]
+    #[tactic(auto, unfolding(gd_base::specs::Judging::Answer::answer))]
     fn is_next(&self, e: &Numbered) -> bool
         ensures { result ≡ is_new (answer (machine_so_far self.now.setup) (view_of self.now.books (play_machine_play self.now.plays)) e.now) }
     {
@@ -83,7 +83,7 @@ impl Core for FirstCore {
         self.books.totals[9] + self.books.totals[11]
     }
 
-    #[tactic(auto, unfolding(gd_base::specs::Answer::answer))]
+    #[tactic(auto, unfolding(gd_base::specs::Judging::Answer::answer))]
     fn step(&mut self, e: &Numbered, draw: Option<(u64, Block)>) -> Stepped {
         let (last, kept) = self.kept(e.event.device());
         if last != 0 && e.number == last {

@@ -86,7 +86,7 @@ fn is_payload_of(books: &Books, play: &Option<PlayRecord>, payload: &[u8]) -> bo
 }
 
 /// The books and the open play that a payload spells, or none.
-#[tactic(auto, unfolding(gd_base::specs::SoFar::spelled_so_far))]
+#[tactic(auto, unfolding(gd_base::specs::Judging::SoFar::spelled_so_far))]
 pub(crate) fn read_payload(setup: &Setup, payload: &[u8]) -> Option<(Books, Option<PlayRecord>)>
     requires { length payload.now ≡ PAYLOAD_LEN }
     ensures spelled { spelled_by result ≡ spelled_so_far setup.now payload.now }

@@ -12,7 +12,7 @@ use gd_base::{
 };
 
 /// The number in the eight bytes at a place, the highest byte first.
-#[tactic(auto, unfolding(gd_base::specs::Reading::number_at))]
+#[tactic(auto, unfolding(gd_base::specs::Payloads::Reading::number_at))]
 fn number(payload: &[u8], place: usize) -> u64
     requires { place + 8 ≤ length payload.now }
     ensures { result ≡ number_at place payload.now }
@@ -63,7 +63,7 @@ fn refusal(n: u8, condition_number: u8) -> Refusal
     }
 }
 
-#[tactic(auto, unfolding(gd_base::specs::Reading::reply_of))]
+#[tactic(auto, unfolding(gd_base::specs::Payloads::Reading::reply_of))]
 fn reply(kind: u8, refusal_number: u8, condition_number: u8) -> Option<Reply>
     ensures { result ≡ reply_of kind refusal_number condition_number }
 {
@@ -86,7 +86,7 @@ fn kept(payload: &[u8], place: usize) -> (u64, Option<Reply>)
 }
 
 /// The number in the four bytes at a place.
-#[tactic(auto, unfolding(gd_base::specs::Reading::short_at))]
+#[tactic(auto, unfolding(gd_base::specs::Payloads::Reading::short_at))]
 fn short(payload: &[u8], place: usize) -> u32
     requires { place + 4 ≤ length payload.now }
     ensures { result ≡ short_at place payload.now }
