@@ -27,7 +27,8 @@ fn no_memory<R: Print>(rt: &R) -> ExitCode {
     ExitCode::from(status.number())
 }
 
-/// Calls `cabinet` with the words of the command line. Words that aren't text are in no row of the commands, as none are.
+/// Calls `cabinet` with the words of the command line. Words that aren't text are in no row of the commands, as none
+/// are.
 fn run(rt: &HostRuntime) -> Result<Status, AllocError> {
     let alloc = rt.alloc();
     let words = words(rt)?;

@@ -4,8 +4,8 @@ use crate::condition::{Door, Tilt};
 use crate::device::Device;
 use crate::game::{Colour, Game};
 
-/// What a device tells. Values are in cents. An event of money means that the piece is held in escrow: it is kept where the
-/// event is taken, and given back where it is refused.
+/// What a device tells. Values are in cents. An event of money means that the piece is held in escrow: it is kept where
+/// the event is taken, and given back where it is refused.
 #[derive(Clone, Copy, PartialEq, Eq, Debug)]
 pub enum Event {
     /// A bill of a value in cents.

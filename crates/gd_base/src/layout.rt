@@ -1,5 +1,5 @@
-//! The layout of a payload in bytes: its parts in a row, each filled up with zeros, the lengths of its records, and where the
-//! fields of the head stand. docs/FORMATS.md has all fields.
+//! The layout of a payload in bytes: its parts in a row, each filled up with zeros, the lengths of its records, and
+//! where the fields of the head stand. docs/FORMATS.md has all fields.
 
 use crate::records::{BILLS_KEPT, EVENTS_KEPT, PLAYS_KEPT, VOUCHERS_KEPT};
 

@@ -1,5 +1,5 @@
-//! Types of the gaming device, what its history means, and the traits of what is outside of it. docs/DEFINITIONS.md is the
-//! way into `specs/`.
+//! Types of the gaming device, what its history means, and the traits of what is outside of it. docs/DEFINITIONS.md is
+//! the way into `specs/`.
 #![tactic(auto)]
 
 mod chance;

@@ -3,7 +3,8 @@
 /// The most entries of a history: 2^36.
 pub const MOST_ENTRIES: u64 = 68_719_476_736;
 
-/// The most cents of a bill, a voucher, a printed order and a limit of a setup, and the most that one entry adds to the books.
+/// The most cents of a bill, a voucher, a printed order and a limit of a setup, and the most that one entry adds to the
+/// books.
 pub const MOST_AMOUNT: u32 = 100_000_000;
 
 /// The greatest bet on the reels, in credits. It is also the number of lines.

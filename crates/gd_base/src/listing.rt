@@ -13,7 +13,8 @@ impl ListDraws {
 
     /// These blocks, of which the first has index 0.
     pub fn of(blocks: Vec<Block>) -> Self
-        ensures block_of { (lap index : ℕ) → ⟦<ListDraws as Draws>⟧.block_of result lap index ≡ listed_block blocks.items lap index }
+        ensures block_of { (lap index : ℕ) → ⟦<ListDraws as Draws>⟧.block_of result lap index
+            ≡ listed_block blocks.items lap index }
     {
         all_fit(&blocks);
         ListDraws { blocks }

@@ -6,8 +6,8 @@ ghost use Rattle.gd_base.specs.Histories.Numbers.{refusal_condition, refusal_num
 
 use crate::condition::Condition;
 
-/// Why an event is refused. The refusals of an event are tried in the order of docs/DEFINITIONS.md. They are numbered from 1
-/// in the order of this enum.
+/// Why an event is refused. The refusals of an event are tried in the order of docs/DEFINITIONS.md. They are numbered
+/// from 1 in the order of this enum.
 #[derive(Clone, Copy, PartialEq, Eq, Debug)]
 pub enum Refusal {
     /// The machine is locked up, and this is the first condition that stands.

@@ -9,9 +9,9 @@ use rand_chacha::ChaCha20Rng;
 use rand_core::{SeedableRng, utils};
 use std::marker::Model;
 
-/// The blocks of a seed, by the key stream of ChaCha20. The key is the seed's eight bytes, the highest first, and 24 zeros;
-/// the lap is the number of the stream, and the block of an index begins at word 32 * index of 32 bits, modulo 2^68. Two
-/// words of 32 bits, the low half first, make one of the block. A contract sees them as their seed.
+/// The blocks of a seed, by the key stream of ChaCha20. The key is the seed's eight bytes, the highest first, and 24
+/// zeros; the lap is the number of the stream, and the block of an index begins at word 32 * index of 32 bits, modulo
+/// 2^68. Two words of 32 bits, the low half first, make one of the block. A contract sees them as their seed.
 #[derive(Drop)]
 pub struct ChaChaDraws {
     seed: u64,
@@ -31,7 +31,8 @@ impl ChaChaDraws {
     /// The blocks of this seed.
     pub fn new(seed: u64) -> Self
         ensures seed { result ≡ seed }
-        ensures block_of { (lap index : ℕ) → ⟦<ChaChaDraws as Draws>⟧.block_of result lap index ≡ seeded_block seed lap index }
+        ensures block_of { (lap index : ℕ) → ⟦<ChaChaDraws as Draws>⟧.block_of result lap index
+            ≡ seeded_block seed lap index }
     {
         ChaChaDraws { seed }
     }

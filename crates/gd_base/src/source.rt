@@ -9,7 +9,8 @@ ghost use Rattle.gd_base.specs.Outside.InMemory.{call_more};
 use std::io::Read;
 use std::marker::Model;
 
-/// A source or a sink failed; a disk has an error of its own, of the same name. It comes only where its count of faults rose in that call, or stands at 2^64 - 1.
+/// A source or a sink failed; a disk has an error of its own, of the same name. It comes only where its count of faults
+/// rose in that call, or stands at 2^64 - 1.
 #[derive(Clone, Copy, Debug, PartialEq, Eq)]
 pub struct Failed;
 
@@ -62,7 +63,8 @@ impl<R: Read> Source for Reading<R> {
     }
 }
 
-/// Bytes in memory, which fail at one call or at none. Each other call fills the whole room, or as much as bytes are left.
+/// Bytes in memory, which fail at one call or at none. Each other call fills the whole room, or as much as bytes are
+/// left.
 #[derive(Drop)]
 pub struct MemorySource {
     bytes: Vec<u8>,

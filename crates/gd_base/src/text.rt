@@ -63,8 +63,8 @@ pub fn push_meters(text: &mut Text, totals: &[u64; 16])
     }
 }
 
-/// Appends a reply: `taken`, or `refused` with the refusal's number and text, which of a lock-up names the condition too.
-/// At most 40 bytes.
+/// Appends a reply: `taken`, or `refused` with the refusal's number and text, which of a lock-up names the condition
+/// too. At most 40 bytes.
 pub fn push_reply(text: &mut Text, reply: Reply)
     requires { array_string_len text.old + 40 ≤ TEXT_LEN }
     ensures bytes { text.new.bytes ≡ text.old.bytes ++ reply_text reply }

@@ -1,5 +1,5 @@
 -- The syncs of an opening, and the cuts that fall in it.
-use Rattle.std.proofs.Common.{◌≡◌, ◌∙◌, sym, ap, ◌+◌, true, List, ℕ, Option, Err}
+use Rattle.std.proofs.Common.{◌≡◌, ◌∙◌, sym, ap, ◌+◌, true, List, ℕ, Err}
 use Rattle.gd_disk.specs.Disk.{DiskState, IfTold}
 use Rattle.gd_disk.specs.CutRuns.{RunOf}
 use Rattle.gd_disk.specs.Runs.{CutOrFaultIn}

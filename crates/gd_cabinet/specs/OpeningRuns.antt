@@ -1,5 +1,5 @@
 -- What an opening leaves of the syncs, the armed cuts and the faults, by what it answers.
-use Rattle.std.specs.Prelude.{◌≡◌, ◌≤◌, ◌+◌, ℕ, true, Some, None, Ok, Err}
+use Rattle.std.specs.Prelude.{◌≡◌, ◌≤◌, ◌+◌, ℕ, true, Some, None, Err}
 use Rattle.gd_base.specs.Judging.Machine.{Machine, Blocks}
 use Rattle.gd_base.specs.Payloads.Spelled.{Shows}
 use Rattle.gd_disk.specs.CutRuns.{IsCompleteRun, RunOf}

@@ -169,9 +169,9 @@ impl<C: Core, D: Disk, W: Draws> Cabinet<C, D, W> {
     /// copy where that is needed, and commits the start of the power supply under its next number. At 2^36 entries it
     /// adds no start. `lap` is the number of memories that this program run has cleared before.
     ///
-    /// Locked comes where the memory shows no view, and Differs where it shows one of another setup. Both are known before
-    /// anything is written. Off comes where a call to the disk failed. A repair makes three syncs, and the start six; what
-    /// the memory shows at each moment is what it showed before, or that with the start.
+    /// Locked comes where the memory shows no view, and Differs where it shows one of another setup. Both are known
+    /// before anything is written. Off comes where a call to the disk failed. A repair makes three syncs, and the start
+    /// six; what the memory shows at each moment is what it showed before, or that with the start.
     pub fn open(mut parts: Parts<C, D, W>, lap: u64) -> CabinetOpened<C, D, W>
         requires size { (D.state parts.disk).size ≡ DISK_LEN }
         requires openable { IsOpenable (D.state parts.disk) }
@@ -192,7 +192,8 @@ impl<C: Core, D: Disk, W: Draws> Cabinet<C, D, W> {
             × ((D.state (disk_in result)).syncs ≡ (D.state parts.disk).syncs)
             × ((D.state (disk_in result)).armed ≡ (D.state parts.disk).armed))) }
         ensures unwritten { OnShut result (IfTold (D.state parts.disk).seen
-            (λ image. LeavesOnly (D.state parts.disk) (D.state (disk_in result)) (From (D.state parts.disk) Unchanged))) }
+            (λ image. LeavesOnly (D.state parts.disk) (D.state (disk_in result))
+            (From (D.state parts.disk) Unchanged))) }
         ensures stays_on { OnShut result (((D.state (disk_in result)).is_on ≡ true)
             × ((D.state (disk_in result)).stops ≡ (D.state parts.disk).stops)
             × ((D.state (disk_in result)).faults ≡ (D.state parts.disk).faults)) }
@@ -320,7 +321,8 @@ pub(crate) fn offer_start<C: Core, D: Disk, W: Draws>(
     ensures draws { IfOk result (λ cabinet. (l i : ℕ) → W.block_of (cabinet_draws cabinet) l i ≡ W.block_of draws l i) }
     ensures any_moment { IfOk result
         (λ cabinet. LeavesOnly (D.state (store_disk store)) (D.state (cabinet_disk cabinet))
-        (ShowsEither (C.meaning core) (C.view core) (view_started (C.meaning core) (W.block_of draws) lap (C.view core)))) }
+        (ShowsEither (C.meaning core) (C.view core) (view_started (C.meaning core)
+        (W.block_of draws) lap (C.view core)))) }
     ensures outcome { IfOk result (λ cabinet. ((D.state (cabinet_disk cabinet)).stops
         ≡ (D.state (store_disk store)).stops)
         × ((D.state (cabinet_disk cabinet)).size ≡ (D.state (store_disk store)).size)
@@ -328,7 +330,8 @@ pub(crate) fn offer_start<C: Core, D: Disk, W: Draws>(
         × ((D.state (cabinet_disk cabinet)).is_on ≡ true)
         × ((D.state (cabinet_disk cabinet)).reads ≡ (D.state (store_disk store)).reads)) }
     ensures off_any_moment { IfErr result (λ parts. LeavesOnly (D.state (store_disk store)) (D.state parts.disk)
-        (ShowsEither (C.meaning core) (C.view core) (view_started (C.meaning core) (W.block_of draws) lap (C.view core)))) }
+        (ShowsEither (C.meaning core) (C.view core) (view_started (C.meaning core)
+        (W.block_of draws) lap (C.view core)))) }
     ensures off_outcome { IfErr result (λ parts. ((D.state parts.disk).stops
         ≡ next_count (D.state (store_disk store)).stops)
         × ((D.state parts.disk).size ≡ (D.state (store_disk store)).size)

@@ -48,8 +48,8 @@ pub enum Stop {
 
 impl<C: Core, D: Disk, W: Draws> Cabinet<C, D, W> {
     /// Offers an event under its number. A new one is one entry more: it is judged, committed to both copies by six
-    /// syncs, and then acknowledged. A repeat gets the kept reply, and any other number changes nothing; neither makes a
-    /// call to the disk.
+    /// syncs, and then acknowledged. A repeat gets the kept reply, and any other number changes nothing; neither makes
+    /// a call to the disk.
     ///
     /// Off comes where a call to the disk failed in this call; the core is then as before it. Stopped comes where an
     /// earlier call answered Off; close the cabinet, and open its parts again. Starts are made by `open` alone.
@@ -67,7 +67,8 @@ impl<C: Core, D: Disk, W: Draws> Cabinet<C, D, W> {
         ensures any_moment { cabinet_stopped self.old ≡ false
             → LeavesOnly (D.state (cabinet_disk self.old)) (D.state (cabinet_disk self.new))
             (ShowsEither (C.meaning (cabinet_core self.old)) (C.view (cabinet_core self.old))
-            (view_offered (C.meaning (cabinet_core self.old)) (W.block_of (cabinet_draws self.old)) (cabinet_lap self.old) (C.view (cabinet_core self.old)) e.now)) }
+            (view_offered (C.meaning (cabinet_core self.old)) (W.block_of (cabinet_draws self.old))
+            (cabinet_lap self.old) (C.view (cabinet_core self.old)) e.now)) }
         ensures stopped { IsErrOf result Stop.Stopped ↔ (cabinet_stopped self.old ≡ true) }
         ensures off { IsErr result ↔ (cabinet_stopped self.new ≡ true) }
         ensures cause { IsErrOf result Stop.Off
@@ -194,7 +195,8 @@ pub(crate) fn offer<C: Core, D: Disk, W: Draws>(
     ensures runs { OnOk result (store_stopped store.new ≡ false) }
     ensures stops { OnErr result (store_stopped store.new ≡ true) }
     ensures any_moment { LeavesOnly (D.state (store_disk store.old)) (D.state (store_disk store.new))
-        (ShowsEither (C.meaning core.old) (C.view core.old) (view_offered (C.meaning core.old) (W.block_of draws.old) lap (C.view core.old) e.now)) }
+        (ShowsEither (C.meaning core.old) (C.view core.old) (view_offered (C.meaning core.old) (W.block_of draws.old)
+        lap (C.view core.old) e.now)) }
     ensures outcome { Answers result (D.state (store_disk store.old)) (D.state (store_disk store.new)) }
     ensures fewer { OnErr result ((D.state (store_disk store.new)).syncs <
         (D.state (store_disk store.old)).syncs + event_syncs (C.meaning core.old) (C.view core.old) e.now) }

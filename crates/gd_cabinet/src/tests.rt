@@ -216,8 +216,8 @@ fn keeps_events(rt: HostRuntime) -> Result<(), Fail> {
     keeps(&rt, rt.alloc(), MemoryLab::new(rt.alloc(), DISK_LEN)?)
 }
 
-/// What a memory made by 11 calls of the disk does whose disk fails at this call after them. An opening makes four reads, and
-/// a commit six writes and six syncs.
+/// What a memory made by 11 calls of the disk does whose disk fails at this call after them. An opening makes four
+/// reads, and a commit six writes and six syncs.
 fn fails_at<D: Disk + Drop>(
     rt: &impl Abort,
     alloc: Global,

@@ -1,5 +1,5 @@
 -- For callers: a pick or a hold is the first choice of its play.
-use Rattle.std.proofs.Common.{◌≡◌, ◌&&◌, ◌^◌, ℕ, zero, suc, true, nat_lt, nat_le, List, Option, Some, None, refl, ap, ◌∙◌, sym}
+use Rattle.std.proofs.Common.{◌≡◌, ◌&&◌, ℕ, true, nat_le, List, Some}
 use Rattle.gd_base.proofs.BoolTests.{both}
 use Rattle.gd_base.specs.declared.event.Event.{Event}
 use Rattle.gd_base.specs.declared.game.Game.{Game}
@@ -7,7 +7,7 @@ use Rattle.gd_base.specs.declared.play.Choices.{Choices}
 use Rattle.gd_base.specs.declared.play.StageOpen.{StageOpen}
 use Rattle.gd_base.specs.declared.limits.TheConstants.{MOST_HOLD, MOST_PICK}
 use Rattle.gd_base.specs.declared.setup.Setup.{Setup}
-use Rattle.gd_base.specs.Games.Stage.{stage, stage_with, base_win, has_pick, first_stage, is_stage, is_choice, could_turn, are_choices}
+use Rattle.gd_base.specs.Games.Stage.{stage, is_stage, are_choices}
 use Rattle.gd_base.proofs.StageLemmas.FirstChoice.{pick_allowed, hold_allowed}
 use Rattle.gd_base.proofs.StageLemmas.Stages.{one_stage}
 use Rattle.gd_play.specs.Judging.{is_choosing, choice_in, asks_for}

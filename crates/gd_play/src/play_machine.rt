@@ -67,7 +67,8 @@ impl<P: Paytable> PlayMachine<P> {
     /// changes. The answer is the stage that is open then.
     pub fn choose(&mut self, event: &Event) -> Result<StageOpen, Refusal>
         requires { IsTrue (is_choosing event.now) }
-        ensures answer { result ≡ judgement (refusal (play_machine_play self.old) (play_machine_stage self.old) event.now)
+        ensures answer { result ≡ judgement
+            (refusal (play_machine_play self.old) (play_machine_stage self.old) event.now)
             (stage_after (P.setup (play_machine_table self.old)) event.now (play_machine_play self.old)) }
         ensures play { OnOk result (play_machine_play self.new ≡
             play_after (P.setup (play_machine_table self.old)) event.now (play_machine_play self.old)) }
@@ -115,7 +116,8 @@ impl<P: Paytable> PlayMachine<P> {
     /// Ends the play with its win. It is refused with NoPlay where there is no play, else with BadChoice where the
     /// stage isn't that of gamble; then nothing changes. The answer is Ended.
     pub fn take(&mut self) -> Result<StageOpen, Refusal>
-        ensures answer { result ≡ judgement (refusal (play_machine_play self.old) (play_machine_stage self.old) Event.Take)
+        ensures answer { result ≡ judgement
+            (refusal (play_machine_play self.old) (play_machine_stage self.old) Event.Take)
             (stage_after (P.setup (play_machine_table self.old)) Event.Take (play_machine_play self.old)) }
         ensures play { OnOk result (play_machine_play self.new ≡
             play_after (P.setup (play_machine_table self.old)) Event.Take (play_machine_play self.old)) }

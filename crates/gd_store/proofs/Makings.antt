@@ -1,11 +1,6 @@
 -- What the calls of a making do.
-use Rattle.std.proofs.Common.{◌≡◌, inl, inr, ⊎_elim, ℕ, ◌*◌, ◌<◌, ◌^◌, List, [], ◌∷◌, length, Result, Ok, Err, sym, ap, subst, arith, true, false, IsTrue, Option}
-use Rattle.gd_disk.specs.Disk.{DiskState, IfTold, counts, IsCut, CountsCuts, Answers, with_bytes, seen_with_bytes}
-use Rattle.gd_disk.specs.Runs.{IsWithin, CanMeet, CutsLeft, CutsOfRun}
-use Rattle.gd_disk.specs.declared.disk.CutUnit.{CutUnit}
-use Rattle.gd_disk.specs.declared.disk.CutUnit.TheVariants.{Call, Sync}
-use Rattle.gd_disk.specs.declared.disk.ArmedCut.{ArmedCut}
-use Rattle.gd_disk.proofs.Cuts.{after_write, no_call}
+use Rattle.std.proofs.Common.{◌≡◌, ℕ, ◌*◌, ◌<◌, ◌^◌, List, length, sym, subst, arith, Option}
+use Rattle.gd_disk.specs.Disk.{DiskState, IfTold, with_bytes, seen_with_bytes}
 use Rattle.gd_store.specs.Copy.{sealed_copy, IsCopy, HoldsBoth, LiesWithin, copy_a}
 use Rattle.gd_store.specs.declared.copy.layout.Layout.{Layout}
 use Rattle.gd_store.proofs.Boots.{carries, written_a, written_b}

@@ -1,9 +1,8 @@
 -- What each moment of an opening leaves.
-use Rattle.std.proofs.Common.{◌≡◌, ◌∙◌, sym, ap, subst, inr, ⊎_elim, false, arith, ◌+◌, ◌≤◌, length, true, List, ℕ, Option, Some, None}
-use Rattle.gd_disk.specs.Disk.{DiskState, Unchanged, IfTold, IsSynced, Rose}
-use Rattle.gd_disk.specs.Runs.{LeavesOnly, CutsLeft, CutOrFaultIn}
+use Rattle.std.proofs.Common.{◌≡◌, ◌∙◌, sym, ap, subst, ⊎_elim, false, arith, ◌≤◌, true, List, ℕ, Option, Some, None}
+use Rattle.gd_disk.specs.Disk.{DiskState, Unchanged, IfTold, IsSynced}
+use Rattle.gd_disk.specs.Runs.{LeavesOnly}
 use Rattle.gd_disk.proofs.Runs.{and_then, at_end, weaker}
-use Rattle.gd_disk.proofs.Cuts.{no_call, failed_then}
 use Rattle.gd_store.proofs.Boots.{told_maps}
 use Rattle.gd_store.specs.Booting.{IsFound}
 use Rattle.gd_store.specs.Copy.{found_in}

@@ -27,8 +27,8 @@ pub enum Made<D: Disk> {
 impl<D: Disk> Store<D> {
     /// Writes the room's payload to both copies at sequence 0, whatever the disk has: shuts the gates that are open,
     /// then writes and opens copy a, then copy b, by five syncs. The room keeps its payload. At each moment each copy
-    /// is the old one, or shut, or the new one, and none is new beside an old one. Where writes waited for a sync before,
-    /// a gate that they opened may be found open over the old copy until the first of the five.
+    /// is the old one, or shut, or the new one, and none is new beside an old one. Where writes waited for a sync
+    /// before, a gate that they opened may be found open over the old copy until the first of the five.
     pub fn make(mut disk: D, mut room: Room) -> Made<D>
         requires size { (D.state disk).size ≡ DISK_LEN }
         ensures done { OnOk (made_outcome result) (IfTold

@@ -104,7 +104,8 @@ impl<D: Disk> Store<D> {
             ⊎ (boots LAYOUT image ≡ Some (store_sequence self.old + 1, payload.now))) }
         ensures order { store_stopped self.old ≡ false
             → LeavesOnly (D.state (store_disk self.old)) (D.state (store_disk self.new))
-            (IsCommitting LAYOUT (store_sequence self.old, store_payload self.old) (store_sequence self.old + 1, payload.now)) }
+            (IsCommitting LAYOUT (store_sequence self.old, store_payload self.old)
+            (store_sequence self.old + 1, payload.now)) }
         ensures answer { Answers result (D.state (store_disk self.old)) (D.state (store_disk self.new)) }
         ensures fewer { OnErr result ((D.state (store_disk self.new)).syncs <
             (D.state (store_disk self.old)).syncs + 6) }

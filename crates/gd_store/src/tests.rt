@@ -299,7 +299,8 @@ fn found_after<L: LabDisk + Drop>(rt: &impl Abort, lab: L, room: Room) -> Result
     }
 }
 
-/// Whether a commit to sequence 2 succeeds under a cut, and what is found after it. A commit after it fails by one call.
+/// Whether a commit to sequence 2 succeeds under a cut, and what is found after it. A commit after it fails by one
+/// call.
 fn commit_under<L: LabDisk + Drop>(
     rt: &impl Abort,
     alloc: Global,

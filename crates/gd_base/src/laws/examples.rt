@@ -46,7 +46,8 @@ pub fn payloads()
     ensures possible { ArePossible }
 {}
 
-/// A history of 2^36 entries is shown by a view that a payload spells, and answers as `specs/Examples/FullHistory` has it.
+/// A history of 2^36 entries is shown by a view that a payload spells, and answers as `specs/Examples/FullHistory` has
+/// it.
 pub fn full_history()
     ensures { FullHistory }
 {}

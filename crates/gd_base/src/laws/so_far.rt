@@ -21,8 +21,8 @@ pub fn no_block_twice()
     ensures { RiseSoFar }
 {}
 
-/// Two views that payloads spell, and that its test calls the same, are one. A view that a payload spells, with no entry and
-/// with the text of the empty state, is the empty view.
+/// Two views that payloads spell, and that its test calls the same, are one. A view that a payload spells, with no
+/// entry and with the text of the empty state, is the empty view.
 pub fn tells_views()
     ensures { TellsViewsSoFar }
 {}

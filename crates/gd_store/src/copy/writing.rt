@@ -77,7 +77,8 @@ pub(crate) fn write_shut<D: Disk>(disk: &mut D, at: u64, body: &[u8]) -> Result<
     requires bounded { (D.state disk.old).size < 2 ^ 64 }
     requires synced { IsSynced (D.state disk.old) }
     requires shut { IfTold (D.state disk.old).seen (IsShut at) }
-    ensures seen { OnOk result ((D.state disk.new).seen ≡ seen_with_bytes at (OPEN ∷ body.now) (D.state disk.old).seen) }
+    ensures seen { OnOk result ((D.state disk.new).seen ≡ seen_with_bytes at
+        (OPEN ∷ body.now) (D.state disk.old).seen) }
     ensures synced { OnOk result (IsSynced (D.state disk.new)) }
     ensures any_moment { LeavesOnly (D.state disk.old) (D.state disk.new) (From
         (D.state disk.old) (IsWriting at (OPEN ∷ body.now))) }
@@ -96,7 +97,8 @@ pub(crate) fn write_copy<D: Disk>(disk: &mut D, at: u64, gate: u8, body: &[u8]) 
     requires bounded { (D.state disk.old).size < 2 ^ 64 }
     requires synced { IsSynced (D.state disk.old) }
     requires gate { IfTold (D.state disk.old).seen (λ image. slice_index image at ≡ gate) }
-    ensures seen { OnOk result ((D.state disk.new).seen ≡ seen_with_bytes at (OPEN ∷ body.now) (D.state disk.old).seen) }
+    ensures seen { OnOk result ((D.state disk.new).seen ≡ seen_with_bytes at
+        (OPEN ∷ body.now) (D.state disk.old).seen) }
     ensures synced { OnOk result (IsSynced (D.state disk.new)) }
     ensures any_moment { LeavesOnly (D.state disk.old) (D.state disk.new) (From
         (D.state disk.old) (IsWriting at (OPEN ∷ body.now))) }

@@ -12,7 +12,9 @@ ghost use Rattle.gd_top.specs.Checks.{is_in_order};
 
 use super::books::Books;
 use super::play_lines::push_play;
-use gd_base::{Handpay, PlayRecord, Setup, TEXT_LEN, Text, What, push_count_line, push_meters, push_number};
+use gd_base::{
+    Handpay, PlayRecord, Setup, TEXT_LEN, Text, What, push_count_line, push_meters, push_number,
+};
 
 /// Appends the line of the condition that locks the machine up: only a handpay can. At most 18 bytes.
 fn push_condition(text: &mut Text, books: &Books)
