@@ -4,8 +4,8 @@ pub mod BooksLemmas
 pub mod HistoryLemmas
 pub mod StageLemmas
 pub mod PayloadLemmas
-pub mod PreservedLemmas
+mod PreservedLemmas
 pub mod SoFarLemmas
-pub mod OutsideLemmas
-pub mod TextLemmas
-pub mod ExampleLemmas
+mod OutsideLemmas
+mod TextLemmas
+mod ExampleLemmas

@@ -1,4 +1,4 @@
--- What an answer tells of the event: which of the four it is, exactly.
+-- For callers: what an answer tells of the event: which of the four it is, exactly.
 use Rattle.std.proofs.Common.{◌≡◌, ℕ, ◌+◌, ◌<◌, ◌≤◌, ◌^◌, ◌==◌, nat_le, not, ◌&&◌, Bool, true, false, refl, ap, ◌∙◌, arith, if◌then◌else◌}
 use Rattle.std.proofs.lemmas.Bool.Decides.{nat_tests}
 use Rattle.gd_base.specs.declared.event.Event.{Event}

@@ -1,4 +1,4 @@
--- The most that a play of the reels wins before any gamble.
+-- For callers: the most that a play of the reels wins before any gamble.
 use Rattle.std.proofs.Common.{◌≡◌, ◌≤◌, ℕ, zero, suc, ◌*◌, ◌-◌, Bool, true, false, List, [], ◌∷◌, nat_le, get_or, slice_index, if◌then◌else◌, arith, Option, Some, None}
 use Rattle.gd_base.specs.declared.game.Game.{Game}
 use Rattle.gd_base.specs.declared.play.Stage.{Stage}

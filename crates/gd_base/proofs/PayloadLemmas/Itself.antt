@@ -1,4 +1,4 @@
--- A view that keeps the rules of a view under a setup is the view of no entry over it.
+-- For callers: a view that keeps the rules of a view under a setup is the view of no entry over it.
 use Rattle.std.specs.Prelude.{◌≡◌, ℕ, zero, suc, ◌≤◌, ◌==◌, Bool, true, ◌&&◌, nat_le, List, [], ◌∷◌, length, take, slice_index, Option, Some, None, option_map, refl}
 use Rattle.std.proofs.Common.{ap, sym, arith}
 use Rattle.gd_base.specs.declared.records.TheConstants.{PLAYS_KEPT, EVENTS_KEPT, BILLS_KEPT, VOUCHERS_KEPT}

@@ -1,4 +1,4 @@
--- The rules of a view of what is built, and that an entry keeps them.
+-- For callers: the rules of a view of what is built, and that an entry keeps them.
 use Rattle.std.proofs.Common.{◌≡◌, ◌∙◌, ap, sym, refl, ℕ, ◌+◌, ◌-◌, ◌*◌, ◌^◌, ◌<◌, ◌≤◌, ◌==◌, ◌&&◌, List, [], ◌∷◌, Bool, true, false, not, if◌then◌else◌, nat_lt, nat_le, is_some, length, map, sum, take, drop, slice_index, zero, suc, ◌||◌, arith, Option, Some, None}
 use Rattle.std.specs.List.{list_all, list_any}
 use Rattle.std.proofs.lemmas.Bool.Decides.{nat_tests}

@@ -1,4 +1,4 @@
--- What an entry makes of a view of what is built.
+-- For callers: what an entry makes of a view of what is built.
 use Rattle.std.proofs.Common.{◌≡◌, ◌∙◌, ap, refl, ℕ, ◌+◌, ◌-◌, ◌≤◌, List, [], ◌∷◌, Bool, true, false, if◌then◌else◌, length, map, slice_index, arith, Option, Some, None, option_map}
 use Rattle.gd_base.specs.declared.device.Device.{Device}
 use Rattle.gd_base.specs.declared.event.Event.{Event}
