@@ -10,10 +10,10 @@ use Rattle.gd_store.specs.Repair.{repair_needed, syncs_of_repair}
 use Rattle.gd_store.specs.declared.copy.states.Found.{Found}
 use Rattle.gd_store.specs.declared.copy.layout.TheConstants.{LAYOUT}
 use Rattle.gd_store.proofs.RunLemmas.{cuts_of_run}
-use Rattle.gd_cabinet.specs.Answered.{event_syncs}
-use Rattle.gd_cabinet.specs.Opening.{start_of, start_syncs, opening_syncs}
-use Rattle.gd_cabinet.specs.Opened.{OnOff}
-use Rattle.gd_cabinet.specs.OpeningRuns.{RunsBy}
+use Rattle.gd_cabinet.specs.Answers.{event_syncs}
+use Rattle.gd_cabinet.specs.OpenMoments.{start_of, start_syncs, opening_syncs}
+use Rattle.gd_cabinet.specs.OpenAnswer.{OnOff}
+use Rattle.gd_cabinet.specs.OpenRuns.{RunsBy}
 use Rattle.gd_cabinet.specs.Shown.{shows}
 use Rattle.gd_cabinet.specs.declared.opening.CabinetOpened.{CabinetOpened}
 use Rattle.gd_cabinet.proofs.Showing.{told_maps}

@@ -9,7 +9,7 @@ use Rattle.gd_base.specs.Payloads.Spelled.{Shows}
 use Rattle.gd_store.specs.Writing.{KeepsBoot, From}
 use Rattle.gd_store.specs.declared.copy.layout.TheConstants.{LAYOUT}
 use Rattle.gd_cabinet.specs.Shown.{shows, spelled_boot, ShowsEither}
-use Rattle.gd_cabinet.specs.Opening.{IsOpening, KeepsView, view_started}
+use Rattle.gd_cabinet.specs.OpenMoments.{IsOpening, KeepsView, view_started}
 
 -- what keeps the boot keeps the view
 keeps_view : {V : Type 0} (M : Machine V) (s : DiskState) (c : List ℕ) → KeepsBoot LAYOUT s c → KeepsView M s c

@@ -13,7 +13,7 @@ use Rattle.gd_base.specs.declared.step.Numbered.{Numbered}
 use Rattle.gd_base.specs.declared.step.Stepped.{Stepped}
 use Rattle.gd_store.specs.Copy.{boots, HoldsBoth}
 use Rattle.gd_store.specs.declared.copy.layout.TheConstants.{LAYOUT}
-use Rattle.gd_cabinet.specs.Answered.{view_offered, syncs_of}
+use Rattle.gd_cabinet.specs.Answers.{view_offered, syncs_of}
 use Rattle.gd_cabinet.specs.Shown.{shows, ShowsEither}
 use Rattle.gd_cabinet.proofs.Showing.{settled_shows}
 

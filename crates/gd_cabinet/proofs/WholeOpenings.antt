@@ -15,10 +15,10 @@ use Rattle.gd_store.specs.Repair.{Repair, NoRepair, RepairA, RepairB, repair_nee
 use Rattle.gd_store.specs.declared.copy.states.Found.{Found}
 use Rattle.gd_store.specs.declared.copy.layout.TheConstants.{LAYOUT}
 use Rattle.gd_base.proofs.AnswerLemmas.Answer.{answer_full}
-use Rattle.gd_cabinet.specs.Answered.{syncs_of}
-use Rattle.gd_cabinet.specs.Opened.{OpenedAs, OnReady}
-use Rattle.gd_cabinet.specs.Opening.{opening_syncs, start_of, view_started}
-use Rattle.gd_cabinet.specs.OpeningRuns.{RunsBy}
+use Rattle.gd_cabinet.specs.Answers.{syncs_of}
+use Rattle.gd_cabinet.specs.OpenAnswer.{OpenedAs, OnReady}
+use Rattle.gd_cabinet.specs.OpenMoments.{opening_syncs, start_of, view_started}
+use Rattle.gd_cabinet.specs.OpenRuns.{RunsBy}
 use Rattle.gd_cabinet.specs.Shown.{shows}
 use Rattle.gd_cabinet.specs.Cabinet.{cabinet_core}
 use Rattle.gd_cabinet.specs.declared.opening.CabinetOpened.{CabinetOpened}

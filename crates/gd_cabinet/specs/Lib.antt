@@ -1,8 +1,8 @@
-pub mod Answered
+pub mod Answers
 pub mod Cabinet
 pub mod CoreLeft
-pub mod Opened
-pub mod Opening
-pub mod OpeningRuns
+pub mod OpenAnswer
+pub mod OpenMoments
+pub mod OpenRuns
 pub mod Shown
-pub mod Told
+pub mod ExactAnswers

@@ -39,7 +39,7 @@ pub struct Cabinet<C: Core, D: Disk, W: Draws> {
 }
 
 impl<C: Core, D: Disk, W: Draws> Cabinet<C, D, W> {
-    ghost use Rattle.gd_store.specs.Opened.{IsOpenable};
+    ghost use Rattle.gd_store.specs.OpenAnswer.{IsOpenable};
     ghost use Rattle.gd_cabinet.specs.Shown.{shows, IsInBoth};
     ghost use Rattle.gd_cabinet.specs.Cabinet.{cabinet_core, cabinet_disk, cabinet_draws, cabinet_stopped};
 

@@ -6,7 +6,7 @@ ghost use Rattle.gd_disk.specs.CutRuns.{RunOf};
 ghost use Rattle.gd_disk.specs.Runs.{LeavesOnly, CutsOfRun};
 ghost use Rattle.gd_base.specs.Judging.Answer.{answer, is_new, draw_for};
 ghost use Rattle.gd_store.specs.Writing.{MadeSyncs};
-ghost use Rattle.gd_cabinet.specs.Answered.{cabinet_answer, view_offered, event_syncs};
+ghost use Rattle.gd_cabinet.specs.Answers.{cabinet_answer, view_offered, event_syncs};
 ghost use Rattle.gd_cabinet.specs.Shown.{ShowsEither, IsInBoth, shows};
 ghost use Rattle.gd_cabinet.specs.Cabinet.{cabinet_core, cabinet_disk, cabinet_draws, cabinet_lap, cabinet_stopped};
 ghost use Rattle.gd_base.specs.Payloads.Spelled.{Shows};

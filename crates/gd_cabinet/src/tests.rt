@@ -6,7 +6,7 @@ ghost use Rattle.gd_disk.specs.Disk.{IsSynced};
 ghost use Rattle.gd_base.specs.Payloads.Spelled.{Shows, Foreign, Unreadable};
 ghost use Rattle.gd_base.specs.Judging.Product.{number_itself};
 ghost use Rattle.gd_base.specs.declared.refusal.Reply.{Reply};
-ghost use Rattle.gd_store.specs.Opened.{IsOpenable};
+ghost use Rattle.gd_store.specs.OpenAnswer.{IsOpenable};
 
 use crate::{Answer, Cabinet, CabinetOpened, Locked, Parts, Stop};
 use gd_base::{

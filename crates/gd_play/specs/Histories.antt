@@ -13,7 +13,7 @@ use Rattle.gd_base.specs.Histories.Rounds.{Round, round_of, choices_of, no_choic
 use Rattle.gd_base.specs.Judging.Rule.{rule}
 use Rattle.gd_base.specs.Games.Stage.{is_stage}
 use Rattle.gd_base.specs.Histories.View.{View}
-use Rattle.gd_play.specs.Judging.{refusal, reply_of}
+use Rattle.gd_play.specs.Judging.{refusal, judgement_reply}
 use Rattle.gd_play.specs.Moving.{play_with_round, play_after, stage_after, open_stage_of}
 
 -- the events that move an open play on
@@ -28,7 +28,7 @@ is_move _ = false
 abbrev pub JudgesAsRule : Type 0
 JudgesAsRule =
     (setup : Setup) (v : View) (event : Event) → IsTrue (is_move event) → lock v ≡ None
-    → rule setup v event ≡ reply_of (refusal v.play (open_stage_of setup v.play) event)
+    → rule setup v event ≡ judgement_reply (refusal v.play (open_stage_of setup v.play) event)
 
 -- the round of a play, where it goes on
 abbrev pub open_round_of : StageOpen → Option PlayRecord → Option Round

@@ -39,6 +39,6 @@ abbrev pub judgement : Option Refusal → StageOpen → Result StageOpen Refusal
 judgement None phase = Ok phase
 judgement (Some why) phase = Err why
 
-abbrev pub reply_of : Option Refusal → Reply
-reply_of None = Reply.Taken
-reply_of (Some why) = Reply.Refused why
+abbrev pub judgement_reply : Option Refusal → Reply
+judgement_reply None = Reply.Taken
+judgement_reply (Some why) = Reply.Refused why

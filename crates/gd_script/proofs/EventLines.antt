@@ -9,7 +9,7 @@ use Rattle.gd_script.specs.declared.limits.TheConstants.{MOST_BET, MOST_NUMBER}
 use Rattle.gd_script.specs.declared.tables.TheConstants.{DOORS, GAMES, TILTS}
 use Rattle.gd_script.specs.Grammar.{event_words, IsLineEvent, NamesNoOrder}
 use Rattle.gd_base.specs.Texts.Names.{door_name, tilt_name}
-use Rattle.gd_script.specs.Reading.{amount_of, bare_event, event_by, event_of, event_with, hold_of, keyword_name, keyword_of, value_named, number_in, number_of, word_pair, play_of, voucher_of}
+use Rattle.gd_script.specs.Reading.{amount_in_word, bare_event, event_by, event_of, event_with, hold_of, keyword_name, keyword_of, value_named, number_in, number_of, word_pair, play_of, voucher_of}
 use Rattle.gd_script.proofs.HoldBits.{hold_read, hold_said}
 use Rattle.gd_script.proofs.NameTables.{door_found, game_found, keyword_says, named_says, tilt_found}
 use Rattle.gd_script.proofs.Numbers.{number_in_decimal}
@@ -53,7 +53,7 @@ third first e f = cc
 
 voucher_said : (fields : List (List ℕ)) (e : Event) → voucher_of (word_pair fields) ≡ Some e → SaysEvent Keyword.Voucher (codes "voucher" ∷ fields) e
 voucher_said (a ∷ b ∷ []) e h =
-    let c = combined Event.VoucherIn (number_of a) (amount_of b) e h in
+    let c = combined Event.VoucherIn (number_of a) (amount_in_word b) e h in
     let id = number_says 0 MOST_NUMBER a c.0 c.2 in
     let amount = number_says 0 MOST_AMOUNT b c.1 c.3 in
     subst (SaysEvent Keyword.Voucher (codes "voucher" ∷ a ∷ b ∷ [])) c.4 (third (codes "voucher") id.0 amount.0, (id.2, amount.2), tt)
@@ -69,9 +69,9 @@ play_said _ e h = absurd (cc)
 pub with_said : (keyword : Keyword) (fields : List (List ℕ)) (e : Event) → event_with keyword fields ≡ Some e → SaysEvent keyword (keyword_name keyword ∷ fields) e
 unfolding event_with
 with_said Keyword.Bill fields e h =
-    one_field (SaysEvent Keyword.Bill) amount_of Event.Bill (codes "bill") fields e (λ w n r. let s = number_says 0 MOST_AMOUNT w n r in (second (codes "bill") s.0, s.2, tt)) h
+    one_field (SaysEvent Keyword.Bill) amount_in_word Event.Bill (codes "bill") fields e (λ w n r. let s = number_says 0 MOST_AMOUNT w n r in (second (codes "bill") s.0, s.2, tt)) h
 with_said Keyword.Coin fields e h =
-    one_field (SaysEvent Keyword.Coin) amount_of Event.Coin (codes "coin") fields e (λ w n r. let s = number_says 0 MOST_AMOUNT w n r in (second (codes "coin") s.0, s.2, tt)) h
+    one_field (SaysEvent Keyword.Coin) amount_in_word Event.Coin (codes "coin") fields e (λ w n r. let s = number_says 0 MOST_AMOUNT w n r in (second (codes "coin") s.0, s.2, tt)) h
 with_said Keyword.Voucher fields e h = voucher_said fields e h
 with_said Keyword.Printed fields e h =
     one_field (SaysEvent Keyword.Printed) number_of Event.Printed (codes "printed") fields e (λ w n r. let s = number_says 0 MOST_NUMBER w n r in (second (codes "printed") s.0, s.2, tt)) h
@@ -111,7 +111,7 @@ pub event_read : (e : Event) → IsLineEvent e → event_of (event_words e) ≡ 
 unfolding event_of bare_event event_with keyword_of value_named
 event_read (Event.Bill value) h = ap (option_map Event.Bill) (amount_read value h)
 event_read (Event.Coin value) h = ap (option_map Event.Coin) (amount_read value h)
-event_read (Event.VoucherIn id value) h = combine Event.VoucherIn (number_of (decimal id)) (amount_of (decimal value)) id value (number_read id h.0) (amount_read value h.1)
+event_read (Event.VoucherIn id value) h = combine Event.VoucherIn (number_of (decimal id)) (amount_in_word (decimal value)) id value (number_read id h.0) (amount_read value h.1)
 event_read (Event.Printed order) h = ap (option_map Event.Printed) (number_read order h)
 event_read (Event.PrintFail order) h = ap (option_map Event.PrintFail) (number_read order h)
 event_read (Event.CoinPaid order) h = ap (option_map Event.CoinPaid) (number_read order h)

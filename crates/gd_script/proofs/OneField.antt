@@ -2,7 +2,7 @@
 use Rattle.std.proofs.Common.{◌≡◌, ℕ, ◌≤◌, List, [], ◌∷◌, decimal, option_and_then, option_map, Option, None, Some, refl, subst, arith}
 use Rattle.gd_base.specs.declared.limits.TheConstants.{MOST_AMOUNT}
 use Rattle.gd_script.specs.declared.limits.TheConstants.{MOST_NUMBER}
-use Rattle.gd_script.specs.Reading.{amount_of, option_map_both, number_in, number_of, only_word}
+use Rattle.gd_script.specs.Reading.{amount_in_word, option_map_both, number_in, number_of, only_word}
 use Rattle.gd_script.proofs.Numbers.{decimal_of_number, number_in_decimal}
 
 pub mapped : {A B : Type 0} (make : A → B) (o : Option A) (b : B) → option_map make o ≡ Some b → (a : A) × (o ≡ Some a) × (make a ≡ b)
@@ -28,7 +28,7 @@ one_field Says read make first (word ∷ other ∷ rest) b f h = absurd (cc)
 pub number_says : (least most : ℕ) (word : List ℕ) (n : ℕ) → number_in least most word ≡ Some n → (word ≡ decimal n) × (least ≤ n) × (n ≤ most)
 number_says least most word n h = let w = decimal_of_number least most word n h in (w.2, w.0, w.1)
 
-pub amount_read : (n : ℕ) → n ≤ MOST_AMOUNT → amount_of (decimal n) ≡ Some n
+pub amount_read : (n : ℕ) → n ≤ MOST_AMOUNT → amount_in_word (decimal n) ≡ Some n
 amount_read n h = number_in_decimal 0 MOST_AMOUNT n (omega arith) (omega arith) h
 
 pub number_read : (n : ℕ) → n ≤ MOST_NUMBER → number_of (decimal n) ≡ Some n

@@ -95,8 +95,8 @@ number_in least most word =
     && bytes_eq word (decimal (digits_value 10 word))
     then Some (digits_value 10 word) else None
 
-abbrev pub amount_of : List ℕ → Option ℕ
-amount_of word = number_in 0 MOST_AMOUNT word
+abbrev pub amount_in_word : List ℕ → Option ℕ
+amount_in_word word = number_in 0 MOST_AMOUNT word
 
 abbrev pub number_of : List ℕ → Option ℕ
 number_of word = number_in 0 MOST_NUMBER word
@@ -139,7 +139,7 @@ bare_event _ = None
 
 abbrev pub voucher_of : Option (List ℕ × List ℕ) → Option Event
 voucher_of None = None
-voucher_of (Some p) = option_map_both Event.VoucherIn (number_of p.0) (amount_of p.1)
+voucher_of (Some p) = option_map_both Event.VoucherIn (number_of p.0) (amount_in_word p.1)
 
 abbrev pub play_of : Option (List ℕ × List ℕ) → Option Event
 play_of None = None
@@ -147,8 +147,8 @@ play_of (Some p) = option_map_both Event.Play (value_named game_name GAMES p.0) 
 
 -- of a line of this first word, by the words behind it
 unfoldable pub event_with : Keyword → List (List ℕ) → Option Event
-event_with Keyword.Bill fields = option_map Event.Bill (option_and_then amount_of (only_word fields))
-event_with Keyword.Coin fields = option_map Event.Coin (option_and_then amount_of (only_word fields))
+event_with Keyword.Bill fields = option_map Event.Bill (option_and_then amount_in_word (only_word fields))
+event_with Keyword.Coin fields = option_map Event.Coin (option_and_then amount_in_word (only_word fields))
 event_with Keyword.Voucher fields = voucher_of (word_pair fields)
 event_with Keyword.Printed fields = option_map Event.Printed (option_and_then number_of (only_word fields))
 event_with Keyword.PrintFail fields = option_map Event.PrintFail (option_and_then number_of (only_word fields))

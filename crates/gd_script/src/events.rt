@@ -3,7 +3,7 @@
 ghost use Rattle.std.specs.Prelude.{◌≡◌, option_map, option_and_then};
 ghost use Rattle.gd_base.specs.Texts.Names.{game_name};
 ghost use Rattle.gd_base.specs.Texts.Names.{door_name, tilt_name};
-ghost use Rattle.gd_script.specs.Reading.{amount_of, bare_event, event_of, event_with, value_named, number_in, number_of};
+ghost use Rattle.gd_script.specs.Reading.{amount_in_word, bare_event, event_of, event_with, value_named, number_in, number_of};
 ghost use Rattle.gd_script.specs.Reading.{only_word, word_pair, play_of, voucher_of, words};
 
 use crate::fields::{read_amount, read_byte, read_hold, read_keyword, read_number};
@@ -75,7 +75,7 @@ pub(crate) fn event_with(keyword: Keyword, fields: &[u8]) -> Option<Event>
 
 /// The amount that the only field is, or none.
 fn only_amount(fields: &[u8]) -> Option<u32>
-    ensures { result ≡ option_and_then amount_of (only_word (words fields.now)) }
+    ensures { result ≡ option_and_then amount_in_word (only_word (words fields.now)) }
 {
     read_amount(only_word(fields)?)
 }

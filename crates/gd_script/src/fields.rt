@@ -3,7 +3,7 @@
 ghost use Rattle.std.specs.Prelude.{◌≡◌, ◌≤◌, ◌<◌, ◌↔◌, length, slice_index, IfSome, IsTrue, option_and_then, if◌then◌else◌, None, Some};
 ghost use Rattle.std.specs.Str.{all_ascii_digits};
 ghost use Rattle.std.specs.Str.Parse.{digits_value};
-ghost use Rattle.gd_script.specs.Reading.{amount_of, bit_of, hold_of, keyword_of, number_in, number_of, only_word, order_of, words};
+ghost use Rattle.gd_script.specs.Reading.{amount_in_word, bit_of, hold_of, keyword_of, number_in, number_of, only_word, order_of, words};
 
 use crate::keyword::{KEYWORDS, Keyword};
 use crate::limits::{MOST_NUMBER, NUMBER_LEN, ONE, ZERO};
@@ -69,7 +69,7 @@ fn read_digits(digits: &[u8]) -> Option<u128>
 
 /// The amount in cents that a word writes, or none.
 pub(crate) fn read_amount(word: &[u8]) -> Option<u32>
-    ensures { result ≡ amount_of word.now }
+    ensures { result ≡ amount_in_word word.now }
 {
     let value = read_number(word, 0, u64::from(MOST_AMOUNT))?;
     Some(value as u32)

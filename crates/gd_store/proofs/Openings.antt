@@ -10,7 +10,7 @@ use Rattle.gd_store.specs.Opening.{repairs_of}
 use Rattle.gd_store.specs.Repair.{Repair, NoRepair, RepairA, RepairB, repair_needed, syncs_of_repair}
 use Rattle.gd_store.specs.declared.copy.states.Found.{Found}
 use Rattle.gd_store.specs.Copy.{boots}
-use Rattle.gd_store.specs.Opened.{IsOpenable}
+use Rattle.gd_store.specs.OpenAnswer.{IsOpenable}
 use Rattle.gd_store.specs.Writing.{From, KeepsBoot}
 use Rattle.gd_store.specs.declared.copy.layout.Layout.{Layout}
 

@@ -18,15 +18,15 @@ BootedAs l (Booted.Lost found) payload image = IsFound l found image × (boots l
 BootedAs l Booted.Off payload image = Unit {0}
 
 -- the later sequence of those at which a copy is sound
-abbrev pub latest : CopyState → CopyState → Option ℕ
-latest (CopyState.Sound m) (CopyState.Sound n) = Some (if nat_lt m n then n else m)
-latest (CopyState.Sound m) (CopyState.Bad why) = Some m
-latest (CopyState.Bad why) (CopyState.Sound n) = Some n
-latest (CopyState.Bad why) (CopyState.Bad other) = None
+abbrev pub later_sequence : CopyState → CopyState → Option ℕ
+later_sequence (CopyState.Sound m) (CopyState.Sound n) = Some (if nat_lt m n then n else m)
+later_sequence (CopyState.Sound m) (CopyState.Bad why) = Some m
+later_sequence (CopyState.Bad why) (CopyState.Sound n) = Some n
+later_sequence (CopyState.Bad why) (CopyState.Bad other) = None
 
 -- the sequence answered is the later one of what was found
 abbrev pub IsLatest : Booted → Type 0
-IsLatest (Booted.Ready found sequence) = latest found.a found.b ≡ Some sequence
+IsLatest (Booted.Ready found sequence) = later_sequence found.a found.b ≡ Some sequence
 IsLatest (Booted.Lost found) = Unit {0}
 IsLatest Booted.Off = Unit {0}
 

@@ -4,7 +4,7 @@ pub mod Copy
 pub mod Lending
 pub mod Lost
 pub mod Making
-pub mod Opened
+pub mod OpenAnswer
 pub mod Opening
 pub mod Reads
 pub mod Repair

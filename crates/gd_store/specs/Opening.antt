@@ -8,9 +8,9 @@ use Rattle.gd_store.specs.declared.copy.states.CopyState.{CopyState}
 use Rattle.gd_store.specs.declared.copy.states.Found.{Found}
 
 -- sound at this sequence
-abbrev pub is_at : CopyState → ℕ → Bool
-is_at (CopyState.Sound n) sequence = n == sequence
-is_at (CopyState.Bad why) sequence = false
+abbrev pub is_sound_at : CopyState → ℕ → Bool
+is_sound_at (CopyState.Sound n) sequence = n == sequence
+is_sound_at (CopyState.Bad why) sequence = false
 
 -- both copies were read, and this is booted
 pub record IsRead (l : Layout) (found : Found) (sequence : ℕ) (payload a b image : List ℕ) : Type 0 where

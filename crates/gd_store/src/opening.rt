@@ -5,13 +5,13 @@ ghost use Rattle.gd_disk.specs.Disk.{IfTold, Answers, Unchanged, IsSynced};
 ghost use Rattle.gd_disk.specs.CutRuns.{RunOf};
 ghost use Rattle.gd_disk.specs.Runs.{LeavesOnly};
 ghost use Rattle.gd_store.specs.Copy.{boots, IsCopy, HoldsBoth, LiesWithin, copy_len, copy_at, gate_at};
-ghost use Rattle.gd_store.specs.Booting.{IsFound, latest};
+ghost use Rattle.gd_store.specs.Booting.{IsFound, later_sequence};
 ghost use Rattle.gd_store.specs.Lost.{IsLost, OpensLostWhere};
 ghost use Rattle.gd_store.specs.Reads.{HasReadBoth, HasReadSome};
 ghost use Rattle.gd_store.specs.Store.{store_payload, store_sequence, store_stopped};
 ghost use Rattle.gd_store.specs.Writing.{From, KeepsBoot};
-ghost use Rattle.gd_store.specs.Opening.{repairs_of, IsRead, is_at};
-ghost use Rattle.gd_store.specs.Opened.{disk_in, outcome, OnReady, OnLost, IsOpenable, OpeningRun};
+ghost use Rattle.gd_store.specs.Opening.{repairs_of, IsRead, is_sound_at};
+ghost use Rattle.gd_store.specs.OpenAnswer.{disk_in, outcome, OnReady, OnLost, IsOpenable, OpeningRun};
 ghost use Rattle.gd_store.specs.Repair.{repair_needed, syncs_of_repair, other_side};
 
 use crate::booting::{Booted, boot};
@@ -87,8 +87,8 @@ impl<D: Disk> Store<D> {
 }
 
 /// Sound at this sequence.
-fn is_at(state: CopyState, sequence: u64) -> bool
-    ensures { result ≡ is_at state sequence }
+fn is_sound_at(state: CopyState, sequence: u64) -> bool
+    ensures { result ≡ is_sound_at state sequence }
 {
     match state {
         CopyState::Sound(n) => n == sequence,
@@ -114,7 +114,7 @@ pub(crate) fn repair<D: Disk>(
     requires a_len { length a.old ≡ copy_len layout.pages }
     requires b_len { length b.old ≡ copy_len layout.pages }
     requires read { IfTold (D.state disk.old).seen (IsRead layout found sequence payload.now a.old b.old) }
-    requires latest { latest found.a found.b ≡ Some sequence }
+    requires latest { later_sequence found.a found.b ≡ Some sequence }
     ensures holds { OnOk result (IfTold (D.state disk.new).seen (HoldsBoth layout sequence payload.now)) }
     ensures synced { OnOk result (IsSynced (D.state disk.new)) }
     ensures any_moment { LeavesOnly (D.state disk.old) (D.state disk.new) (KeepsBoot layout (D.state disk.old)) }
@@ -124,11 +124,11 @@ pub(crate) fn repair<D: Disk>(
     ensures run { RunOf (syncs_of_repair (repair_needed found)) result (D.state disk.old) (D.state disk.new) }
     ensures reads { (D.state disk.new).reads ≡ (D.state disk.old).reads }
 {
-    if !is_at(found.a, sequence) {
+    if !is_sound_at(found.a, sequence) {
         let gate = a[0];
         return repair_side(disk, layout, Side::A, gate, sequence, payload, &mut a[1..]);
     }
-    if !is_at(found.b, sequence) {
+    if !is_sound_at(found.b, sequence) {
         let gate = b[0];
         return repair_side(disk, layout, Side::B, gate, sequence, payload, &mut b[1..]);
     }

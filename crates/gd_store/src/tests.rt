@@ -1,7 +1,7 @@
 //! What no clause says: that the calls succeed, the bytes of a copy, and what is found after a cut at each call.
 ghost use Rattle.std.specs.Prelude.{◌≡◌, length, IfOk, OnOk};
 ghost use Rattle.gd_disk.specs.Disk.{IsSynced};
-ghost use Rattle.gd_store.specs.Opened.{IsOpenable};
+ghost use Rattle.gd_store.specs.OpenAnswer.{IsOpenable};
 
 use crate::copy::sealing::seal_body;
 use crate::{Booted, CopyState, Found, LAYOUT, Made, Opened, Room, Store, Why, boot};

@@ -10,7 +10,7 @@ use Rattle.gd_base.specs.Outside.Causes.{Rose}
 use Rattle.gd_base.specs.Histories.Entry.{device_of}
 use Rattle.gd_base.specs.Judging.Legal.{draw_of}
 use Rattle.gd_base.specs.Judging.Machine.{Machine, Blocks}
-use Rattle.gd_cabinet.specs.Answered.{view_offered, syncs_of}
+use Rattle.gd_cabinet.specs.Answers.{view_offered, syncs_of}
 use Rattle.gd_disk.specs.Disk.{DiskState}
 use Rattle.gd_disk.specs.Runs.{CanMeet, CutOrFaultIn}
 use Rattle.gd_top.specs.Answered.{answer_text}

@@ -10,7 +10,7 @@ use Rattle.gd_base.specs.Judging.Machine.{Machine, Blocks}
 use Rattle.gd_base.specs.Payloads.LoadedView.{opens}
 use Rattle.gd_base.specs.Payloads.Spelled.{Spelled, Shows}
 use Rattle.gd_base.proofs.AnswerLemmas.Answer.{answer_new, answer_full}
-use Rattle.gd_cabinet.specs.Opening.{start_of, view_started}
+use Rattle.gd_cabinet.specs.OpenMoments.{start_of, view_started}
 use Rattle.gd_cabinet.specs.Shown.{shows}
 use Rattle.gd_disk.specs.Disk.{DiskState}
 use Rattle.gd_store.specs.Copy.{found_in}

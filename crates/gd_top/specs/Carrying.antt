@@ -6,7 +6,7 @@ use Rattle.gd_base.specs.Outside.Causes.{AppendsFront}
 use Rattle.gd_base.specs.Histories.Entry.{Entry}
 use Rattle.gd_base.specs.Judging.Machine.{Machine, Blocks}
 use Rattle.gd_base.specs.declared.step.Numbered.{Numbered}
-use Rattle.gd_cabinet.specs.Answered.{view_offered}
+use Rattle.gd_cabinet.specs.Answers.{view_offered}
 use Rattle.gd_cabinet.specs.Shown.{ShowsEither}
 use Rattle.gd_disk.specs.Disk.{DiskState}
 use Rattle.gd_top.specs.Offers.{is_broken}

@@ -2,7 +2,7 @@
 
 ghost use Rattle.std.specs.Prelude.{◌≡◌, ◌≢◌, ℕ};
 ghost use Rattle.gd_base.specs.declared.step.Stepped.{Stepped as SteppedData};
-ghost use Rattle.gd_cabinet.specs.Answered.{cabinet_answer};
+ghost use Rattle.gd_cabinet.specs.Answers.{cabinet_answer};
 ghost use Rattle.gd_cabinet.specs.Cabinet.{cabinet_core, cabinet_disk, cabinet_draws, cabinet_lap, cabinet_stopped};
 ghost use Rattle.gd_top.specs.Answered.{answer_text};
 ghost use Rattle.gd_top.specs.Carrying.{outside, standing, CarriesBy};

@@ -1,7 +1,7 @@
 use Rattle.std.proofs.Common.{◌≡◌, ◌∙◌, ◌+◌, ap, sym, subst, refl, ℕ, [], arith, Option, Some}
 use Rattle.std.proofs.KnownBytes.{Appends-nil}
 use Rattle.gd_base.specs.Judging.Answer.{answer}
-use Rattle.gd_cabinet.specs.Answered.{view_offered}
+use Rattle.gd_cabinet.specs.Answers.{view_offered}
 use Rattle.gd_cabinet.specs.Shown.{ShowsEither}
 use Rattle.gd_cabinet.specs.Cabinet.{cabinet_core, cabinet_disk, cabinet_draws, cabinet_lap}
 use Rattle.gd_disk.proofs.Runs.{at_end}

@@ -2,7 +2,7 @@ use Rattle.std.proofs.Common.{◌≡◌, ◌∙◌, ◌++◌, ap, sym, subst, �
 use Rattle.std.proofs.KnownBytes.{Appends-nil}
 use Rattle.gd_base.specs.Judging.Answer.{is_full}
 use Rattle.gd_cabinet.specs.Cabinet.{cabinet_core, cabinet_disk}
-use Rattle.gd_cabinet.specs.Opening.{view_started}
+use Rattle.gd_cabinet.specs.OpenMoments.{view_started}
 use Rattle.gd_store.specs.Repair.{repair_needed}
 use Rattle.gd_top.specs.Carrying.{standing, outside, GivesText}
 use Rattle.gd_top.specs.Lines.{power_line, start_text}

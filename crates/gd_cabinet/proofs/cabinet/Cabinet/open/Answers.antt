@@ -1,5 +1,5 @@
 use Rattle.gd_store.specs.Room.{room_payload}
-use Rattle.gd_cabinet.specs.Opened.{disk_in}
+use Rattle.gd_cabinet.specs.OpenAnswer.{disk_in}
 use Rattle.gd_cabinet.proofs.Cutting.{fault_of_run, cut_of_run}
 use Rattle.gd_cabinet.proofs.Moments.{reads_alone, reads_then}
 use Rattle.gd_cabinet.proofs.Showing.{told_view, told_differs}

@@ -6,7 +6,7 @@ use Rattle.gd_disk.specs.CutRuns.{IsCompleteRun, RunOf}
 use Rattle.gd_disk.specs.Disk.{DiskState, Answers, next_count}
 use Rattle.gd_store.specs.Reads.{HasReadFewer}
 use Rattle.gd_store.specs.Repair.{repair_needed, syncs_of_repair}
-use Rattle.gd_cabinet.specs.Opening.{view_started, start_syncs}
+use Rattle.gd_cabinet.specs.OpenMoments.{view_started, start_syncs}
 use Rattle.gd_cabinet.specs.Cabinet.{cabinet_core}
 use Rattle.gd_cabinet.specs.declared.opening.CabinetOpened.{CabinetOpened}
 

@@ -6,7 +6,7 @@ use Rattle.gd_base.specs.Payloads.Spelled.{Shows, Foreign, Unreadable}
 use Rattle.gd_store.specs.Copy.{boots, found_in}
 use Rattle.gd_store.specs.declared.copy.layout.TheConstants.{LAYOUT}
 use Rattle.gd_store.specs.declared.copy.states.Found.{Found}
-use Rattle.gd_cabinet.specs.Opening.{view_started}
+use Rattle.gd_cabinet.specs.OpenMoments.{view_started}
 use Rattle.gd_cabinet.specs.Shown.{shows}
 use Rattle.gd_cabinet.specs.Cabinet.{cabinet_core, cabinet_disk, cabinet_draws}
 use Rattle.gd_cabinet.specs.declared.cabinet.Cabinet.{Cabinet}

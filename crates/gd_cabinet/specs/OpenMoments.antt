@@ -9,7 +9,7 @@ use Rattle.gd_base.specs.declared.step.Numbered.{Numbered}
 use Rattle.gd_store.specs.Copy.{found_in}
 use Rattle.gd_store.specs.Repair.{repair_needed, syncs_of_repair}
 use Rattle.gd_store.specs.declared.copy.layout.TheConstants.{LAYOUT}
-use Rattle.gd_cabinet.specs.Answered.{view_offered, event_syncs}
+use Rattle.gd_cabinet.specs.Answers.{view_offered, event_syncs}
 use Rattle.gd_cabinet.specs.Shown.{shows, ShowsEither}
 
 -- the start, under the next number of the power supply
