@@ -1,4 +1,4 @@
-// What no clause says: that calls succeed, and what the adapters make of a reader and a writer that fail in mid-stream.
+//! What no clause says: that calls succeed, and what the adapters make of a reader and a writer that fail in mid-stream.
 use crate::{
     Block, ChaChaDraws, Colour, Condition, Device, Draws, Event, ListDraws, MemorySink,
     MemorySource, Meter, Reading, Refusal, Reply, Sink, Source, Text, Writing, push_meters,
