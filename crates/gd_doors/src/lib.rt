@@ -2,5 +2,7 @@
 #![tactic(auto)]
 
 mod conditions;
+#[cfg(test)]
+mod tests;
 
 pub use conditions::Conditions;
