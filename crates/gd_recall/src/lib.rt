@@ -2,8 +2,17 @@
 //! the records.
 #![tactic(auto)]
 
+pub mod laws;
+mod layout;
+mod list_record;
+mod numbers;
+mod play_record;
 mod recall;
+mod rows;
+mod short_records;
 #[cfg(test)]
 mod tests;
 
+pub use layout::LISTS_LEN;
+pub use play_record::{is_recorded_play, play_image, read_play};
 pub use recall::Recall;

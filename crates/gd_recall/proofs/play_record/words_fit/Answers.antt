@@ -1,0 +1,6 @@
+use Rattle.std.proofs.Common.{arith}
+use Rattle.gd_recall.proofs.WordWidths.{each_below}
+use Rattle.gd_recall.proofs.play_record.words_fit.Goals as goal
+
+pub returns : goal.returns
+returns c = each_below c.args.words.now (λ i. omega (arith, c.type_inv.words i))
