@@ -5,3 +5,5 @@ pub mod RowSteps
 pub mod Parts
 pub mod ReadBack
 pub mod Loading
+pub mod OfViews
+pub mod WholePayload

@@ -1,6 +1,5 @@
 -- What was written of lists that a payload can have is read as these lists.
-use Rattle.std.proofs.Common.{◌≡◌, ◌∙◌, ap, sym, refl, ℕ, ◌+◌, ◌-◌, ◌*◌, ◌<◌, ◌≤◌, ◌^◌, ◌==◌, min, nat_le, nat_lt, List, [], ◌∷◌, ◌++◌, Bool, true, false, ◌&&◌, ◌||◌, if◌then◌else◌, IsTrue, length, map, flat_map, replicate, take, drop, arith, append_assoc, Option, Some, None}
-use Rattle.std.specs.Int.{w16, w32, w64, from_be_bytes}
+use Rattle.std.proofs.Common.{◌≡◌, ◌∙◌, ap, refl, ℕ, ◌+◌, ◌-◌, ◌<◌, ◌≤◌, ◌^◌, ◌==◌, min, nat_le, nat_lt, List, [], ◌∷◌, ◌++◌, Bool, true, false, ◌&&◌, ◌||◌, if◌then◌else◌, length, map, flat_map, replicate, take, drop, arith, append_assoc, Option, Some, None}
 use Rattle.std.specs.List.{list_all}
 use Rattle.std.proofs.Math.Nat.{min-eq_left}
 use Rattle.std.proofs.lemmas.Bool.Decides.{nat_tests}
@@ -22,7 +21,7 @@ use Rattle.gd_base.proofs.BoolTests.{all_told, both, is_so}
 use Rattle.gd_base.proofs.PayloadLemmas.Fields.{Each, each_placed, each_passed}
 use Rattle.gd_base.proofs.PayloadLemmas.Records.{Placed, PlayWidths}
 use Rattle.gd_recall.specs.declared.layout.TheConstants.{LISTS_LEN}
-use Rattle.gd_recall.specs.InPayload.{part, two_at, event_read, bill_read, voucher_read, records_in, lists_read, row_of, numbers_of, HasLists}
+use Rattle.gd_recall.specs.InPayload.{part, two_at, event_read, bill_read, voucher_read, records_in, lists_read, row_of, HasLists}
 use Rattle.gd_recall.specs.Lists.{Lists}
 use Rattle.gd_recall.specs.Recorded.{recorded_play_rules, is_recorded_play, is_recorded_event, are_listed}
 
@@ -174,7 +173,7 @@ play_of_words p _ w short = absurd (omega (arith, w.sixteen))
 play_back : (p : PlayRecord) → Placed (λ r. r.place) is_recorded_play p → play_read 0 (play_bytes p) ≡ p
 play_back p ok = (play_of_words p p.words (widths p ok.0) ok.1).0
 
-play_long : (p : PlayRecord) → Placed (λ r. r.place) is_recorded_play p → length (play_bytes p) ≡ PLAY_LEN
+pub play_long : (p : PlayRecord) → Placed (λ r. r.place) is_recorded_play p → length (play_bytes p) ≡ PLAY_LEN
 play_long p ok = (play_of_words p p.words (widths p ok.0) ok.1).1
 
 -- ================ numbers of records

@@ -4,6 +4,7 @@ use Rattle.gd_base.specs.declared.play.PlayRecord.{PlayRecord}
 use Rattle.gd_base.specs.declared.records.BillRecord.{BillRecord}
 use Rattle.gd_base.specs.declared.records.EventRecord.{EventRecord}
 use Rattle.gd_base.specs.declared.records.VoucherRecord.{VoucherRecord}
+use Rattle.gd_base.specs.Histories.View.{View}
 
 pub record Lists : Type 0 where
   pub plays : List PlayRecord
@@ -17,3 +18,7 @@ no_lists = record { plays = []; events = []; bills = []; vouchers = [] }
 -- what a `Recall` is in contracts
 pub record Recalled : Type 0 where
   pub lists : Lists
+
+-- the lists of a view
+abbrev pub lists_of : View → Lists
+lists_of v = record { plays = v.plays; events = v.events; bills = v.bills; vouchers = v.vouchers }

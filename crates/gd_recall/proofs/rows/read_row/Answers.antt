@@ -1,5 +1,5 @@
-use Rattle.std.proofs.Common.{rules, ◌≡◌, ◌∙◌, ap, ℕ, ◌≤◌, ◌+◌, ◌*◌, ◌-◌, ◌<◌, List, [], ◌∷◌, ◌++◌, length, take, drop, length-append, arith}
-use Rattle.circular_buffer.specs.Buffer.{Buffer, keep_last}
+use Rattle.std.proofs.Common.{◌≡◌, ◌∙◌, ap, ℕ, ◌+◌, ◌-◌, ◌<◌, [], ◌∷◌, ◌++◌, length, take, drop, length-append, arith}
+use Rattle.circular_buffer.specs.Buffer.{Buffer}
 use Rattle.gd_recall.specs.InPayload.{records_in}
 use Rattle.gd_recall.proofs.RowSteps.{read_step, room_left, kept_all}
 use Rattle.gd_recall.proofs.rows.read_row.Goals as goal

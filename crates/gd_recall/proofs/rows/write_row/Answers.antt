@@ -1,4 +1,4 @@
-use Rattle.std.proofs.Common.{rules, ◌≡◌, ◌∙◌, ap, ℕ, ◌≤◌, ◌+◌, ◌*◌, ◌-◌, ◌∷◌, ◌++◌, length, take, arith}
+use Rattle.std.proofs.Common.{rules, ◌≡◌, ◌∙◌, ap, ℕ, ◌+◌, ◌-◌, ◌∷◌, ◌++◌, length, take, arith}
 use Rattle.std.specs.List.{flat_map}
 use borrow.Rule.Slice.PartMut.{put_mid}
 use Rattle.gd_recall.proofs.RowSteps.{room_step, recorded_step, written_step, same_length}

@@ -1,4 +1,4 @@
-use Rattle.std.proofs.Common.{◌≡◌, ◌∙◌, ap, sym, Option, is_some, unwrap_or, true, false}
+use Rattle.std.proofs.Common.{◌∙◌, ap, sym, Option, is_some, unwrap_or, true, false}
 use Rattle.gd_recall.specs.Lists.{Lists, no_lists}
 use Rattle.gd_recall.proofs.Loading.{told}
 use Rattle.gd_recall.proofs.recall.Recall.load.Goals as goal

@@ -1,4 +1,4 @@
-use Rattle.std.proofs.Common.{◌≡◌, ◌∙◌, ap, ℕ, ◌+◌, ◌-◌, List}
+use Rattle.std.proofs.Common.{◌∙◌, ap, ℕ, ◌+◌}
 use Rattle.circular_buffer.specs.Buffer.{Buffer}
 use Rattle.gd_base.specs.declared.layout.TheConstants.{PLAY_LEN, EVENT_LEN, BILL_LEN, VOUCHER_LEN, PLAYS_AT, PLAYS_LEN, EVENTS_AT, EVENTS_LEN, BILLS_AT, BILLS_LEN, VOUCHERS_AT, VOUCHERS_LEN, REST_LEN}
 use Rattle.gd_base.specs.declared.play.PlayRecord.{PlayRecord}

@@ -1,4 +1,4 @@
-use Rattle.std.proofs.Common.{◌≡◌, ◌∙◌, ap, ℕ, ◌+◌, List, [], ◌∷◌, Bool}
+use Rattle.std.proofs.Common.{◌∙◌, ap, ◌+◌, [], ◌∷◌}
 use Rattle.gd_base.specs.declared.layout.TheConstants.{LISTS_AT, PLAYS_AT, PLAYS_LEN, EVENTS_AT, EVENTS_LEN, BILLS_AT, BILLS_LEN, VOUCHERS_AT, VOUCHERS_LEN, REST_LEN}
 use Rattle.gd_base.specs.Judging.Product.{same_numbers}
 use Rattle.std.specs.List.{list_all}

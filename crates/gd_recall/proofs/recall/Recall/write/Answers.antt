@@ -1,9 +1,9 @@
 use Rattle.std.proofs.Common.{rules, ◌≡◌, ◌∙◌, ap, sym, ℕ, ◌+◌, ◌-◌, List, ◌++◌, length, take, drop, arith}
 use Rattle.std.proofs.lemmas.List.{length-take-le, length-drop}
-use Rattle.gd_base.specs.declared.layout.TheConstants.{LISTS_AT, PLAYS_AT, PLAYS_LEN, EVENTS_AT, EVENTS_LEN, BILLS_AT, BILLS_LEN, VOUCHERS_AT, VOUCHERS_LEN, REST_LEN}
+use Rattle.gd_base.specs.declared.layout.TheConstants.{LISTS_AT, PLAYS_AT, PLAYS_LEN, EVENTS_LEN, BILLS_LEN, VOUCHERS_LEN, REST_LEN}
 use Rattle.gd_base.specs.Payloads.Bytes.{play_bytes, event_bytes, bill_bytes, voucher_bytes}
 use Rattle.gd_recall.specs.declared.layout.TheConstants.{LISTS_LEN}
-use Rattle.gd_recall.specs.InPayload.{row_of, numbers_of, outside}
+use Rattle.gd_recall.specs.InPayload.{row_of}
 use Rattle.gd_recall.proofs.Parts.{head_long, numbers_part, outside_is, plays_part, events_part, bills_part, vouchers_part, taken_apart}
 use Rattle.gd_recall.proofs.recall.Recall.write.Goals as goal
 
