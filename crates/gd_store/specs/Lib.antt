@@ -4,6 +4,7 @@ pub mod Copy
 pub mod Lending
 pub mod Lost
 pub mod Making
+pub mod Masks
 pub mod OpenAnswer
 pub mod Opening
 pub mod Reads
