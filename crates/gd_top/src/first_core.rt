@@ -23,7 +23,7 @@ mod tests;
 
 ghost use Rattle.std.specs.Prelude.{◌≡◌};
 ghost use Rattle.gd_play.specs.PlayMachine.{play_machine_stage, play_machine_play, play_machine_table};
-ghost use Rattle.gd_top.specs.Books.{AreFit};
+ghost use Rattle.gd_top.specs.FirstCore.Books.{AreFit};
 
 use self::books::Books;
 use self::reels_table::ReelsTable;

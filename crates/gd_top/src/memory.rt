@@ -1,14 +1,30 @@
-//! The memory of a run, between two lines.
+//! The memory of a trial, and what is counted of it.
+
+pub(crate) mod making;
 
 use gd_base::{Core, Draws};
 use gd_cabinet::{Cabinet, Parts};
 use gd_disk::LabDisk;
 
-/// The memory of a run, between two lines.
+/// The most power-ons of a trial.
+pub const MOST_POWER_ONS: u64 = 256;
+
+const _: () = prove!(MOST_POWER_ONS == 256);
+
+/// The memory of a trial, between two lines.
 #[derive(Drop)]
 pub(crate) enum Memory<C: Core, L: LabDisk, W: Draws> {
     /// Open, with the power on.
     On(Cabinet<C, L, W>),
     /// Closed, with the power off.
     Off(Parts<C, L, W>),
+}
+
+/// What a trial has counted so far. One is a local of the trial, and is lent down.
+#[derive(Clone, Copy, Debug, PartialEq, Eq)]
+pub(crate) struct Counts {
+    /// The lines that were carried out.
+    pub(crate) lines: u64,
+    /// How often the power was turned on.
+    pub(crate) power_ons: u64,
 }

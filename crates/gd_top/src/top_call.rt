@@ -1,20 +1,19 @@
 //! The top call.
 
-ghost use Rattle.std.specs.Prelude.{◌≡◌, ◌≢◌, ◌⊎◌, ◌≤◌, true, false, [], List, ℕ, All, IfSome};
-ghost use Rattle.std.specs.Io.KnownBytes.{Appends};
-ghost use Rattle.gd_base.specs.Setups.BuiltIn.{built_in_setup};
-ghost use Rattle.gd_base.specs.Outside.Causes.{Rose};
+ghost use Rattle.std.specs.Prelude.{◌≡◌, ◌⊎◌, true, false, []};
+ghost use Rattle.std.specs.Io.KnownBytes.{Appends, IsAtEnd};
 ghost use Rattle.gd_base.specs.Judging.SoFar.{machine_so_far};
-ghost use Rattle.gd_top.specs.Starts.{IsShown};
-ghost use Rattle.gd_top.specs.Trial.{is_trial, no_memory_text, usage_text, GivesLast, WroteBroken, WroteFront, WroteReport, WroteToFault, WroteFrontOf, CabinetDone, IsBuilt, IsUnopened, told_status};
+ghost use Rattle.gd_base.specs.Outside.Blocks.{AreBlocks};
+ghost use Rattle.gd_base.specs.Outside.Causes.{Rose};
+ghost use Rattle.gd_base.specs.Setups.BuiltIn.{built_in_setup};
+ghost use Rattle.gd_top.specs.Claims.Trial.{is_trial, no_memory_text, outer, usage_text, CabinetDone, EndsAsTold, GivesLast, HasCauses, IsBuilt, IsUnopened, WroteBroken, WroteFrontOf, WroteReport, WroteToFault};
 
 use crate::built_in::built_in;
+use crate::command::trial::run_trial;
 use crate::ended::{Ended, Falls};
 use crate::first_core::FirstCore;
-use crate::last_line::give_last;
 use crate::status::Status;
-use crate::trial::carry;
-use gd_base::{Draws, Sink, Source, Text};
+use gd_base::{Draws, Sink, Source};
 use gd_cabinet::Parts;
 use gd_disk::{DISK_LEN, Disk, LabDisk};
 use gd_store::Room;
@@ -73,16 +72,15 @@ fn command<S: Source, K: Sink, L: LabDisk, D: Disk, W: Draws>(
     requires is_on { (L.state lab).is_on ≡ true }
     requires armed { (L.state lab).armed ≡ [] }
     requires found { (L.state lab).found ≡ [] }
-    ensures done { CabinetDone (machine_so_far built_in_setup) (W.block_of draws) (is_trial words.now) result.status (S.left input.old) (S.left input.new) (K.taken output.old) (K.taken output.new) (L.state result.lab) }
-    ensures read_cause { result.status ≡ Status.ReadFault → Rose (S.faults input.old) (S.faults input.new) }
-    ensures write_cause { result.status ≡ Status.WriteFault → Rose (K.faults output.old) (K.faults output.new) }
-    ensures disk_cause { result.status ≡ Status.DiskFault → Rose (L.state lab).faults (L.state result.lab).faults }
-    ensures shown { All (IsShown (machine_so_far built_in_setup)) (L.state result.lab).found }
-    ensures exact { is_trial words.now ≡ true → (result.status ≡ Status.ReadFault → ⊥) → (result.status ≡ Status.WriteFault → ⊥) → (result.status ≡ Status.DiskFault → ⊥)
-        → (result.status ≡ Status.OutOfMemory) ⊎ IfSome (S.left input.old) (λ script. result.status ≡ told_status (machine_so_far built_in_setup) (W.block_of draws) script (L.state result.lab)) }
-    ensures unopened { IsUnopened result.status → (result.lab ≡ lab) × (result.draws ≡ draws) }
+    ensures done { CabinetDone (machine_so_far built_in_setup) (W.block_of draws) (is_trial words.now) result.status result.falls.items
+        (outer S.left S.faults K.taken K.faults L.state input.old output.old lab)
+        (outer S.left S.faults K.taken K.faults L.state input.new output.new result.lab) }
+    ensures causes { HasCauses result.status (outer S.left S.faults K.taken K.faults L.state input.old output.old lab)
+        (outer S.left S.faults K.taken K.faults L.state input.new output.new result.lab) }
+    ensures unopened { IsUnopened result.status → (result.lab ≡ lab) × (result.draws ≡ draws) × (input.new ≡ input.old) }
+    ensures refused { is_trial words.now ≡ false → (result.lab ≡ lab) × (result.draws ≡ draws) × (input.new ≡ input.old) }
+    ensures no_falls { result.falls.items ≡ [] }
     ensures disk { result.disk ≡ disk }
-    ensures falls { result.falls.items ≡ [] }
 {
     if !are_trial(words) {
         return refuse(Status::Usage, "usage\n", output, lab, disk, draws);
@@ -95,7 +93,7 @@ fn command<S: Source, K: Sink, L: LabDisk, D: Disk, W: Draws>(
                 draws,
                 room,
             };
-            let trial = carry(parts, input, output);
+            let trial = run_trial(parts, input, output);
             Ended {
                 status: trial.status,
                 falls: trial.falls,
@@ -112,8 +110,8 @@ fn command<S: Source, K: Sink, L: LabDisk, D: Disk, W: Draws>(
 /// carries out the script of the input; docs/COMMANDS.md has the words, the report and the statuses. It takes memory once,
 /// before anything is made. It ends on every input, and gives back what was handed in.
 ///
-/// What is told of a run is by the definition of docs/DEFINITIONS.md, of the lines of the script and of what the power-on
-/// found, for a source that tells its bytes and a sink that tells what it took.
+/// What is told of a run is by the definition of docs/DEFINITIONS.md, of the lines of a script, of what the power-ons found and
+/// of where cuts fell. The script is that of the input, where the input tells its bytes.
 pub fn cabinet<S: Source, C: Source, K: Sink, L: LabDisk, D: Disk, W: Draws>(
     alloc: Global,
     words: &[&str],
@@ -129,40 +127,54 @@ pub fn cabinet<S: Source, C: Source, K: Sink, L: LabDisk, D: Disk, W: Draws>(
     requires is_on { (L.state lab).is_on ≡ true }
     requires armed { (L.state lab).armed ≡ [] }
     requires found { (L.state lab).found ≡ [] }
-    // 0: the whole report was written, and each image that may be found has the view that is told in both copies.
-    ensures done { result.status ≡ Status.Done → IfSome (S.left input.old) (λ script. WroteReport (machine_so_far built_in_setup) (W.block_of draws) Status.Done script
-        (K.taken output.old) (K.taken output.new) (L.state result.lab)) }
-    // 2: exactly where the words aren't `trial`, but for a failing sink.
+    // 0: the input was taken to its end, and the whole report was written.
+    ensures done { result.status ≡ Status.Done
+        → WroteReport (machine_so_far built_in_setup) (W.block_of draws) Status.Done result.falls.items
+        (outer S.left S.faults K.taken K.faults L.state input.old output.old lab)
+        (outer S.left S.faults K.taken K.faults L.state input.new output.new result.lab)
+        × IsAtEnd (S.left input.new) }
+    // 2: exactly where the words aren't `trial`, but for a failing sink. Nothing was read.
     ensures usage { result.status ≡ Status.Usage → (is_trial words.now ≡ false) × Appends (K.taken output.old) (K.taken output.new) usage_text }
     ensures refused { is_trial words.now ≡ false → (result.status ≡ Status.Usage) ⊎ (result.status ≡ Status.WriteFault) }
+    ensures unread { is_trial words.now ≡ false → (result.lab ≡ lab) × (result.draws ≡ draws) × (input.new ≡ input.old) }
     // 3: the lines whose LF was taken were carried out.
-    ensures read_fault { result.status ≡ Status.ReadFault → IfSome (S.left input.old) (λ script. WroteToFault (machine_so_far built_in_setup) (W.block_of draws) script
-        (S.left input.new) (K.taken output.old) (K.taken output.new) (L.state result.lab)) }
-    ensures read_cause { result.status ≡ Status.ReadFault → Rose (S.faults input.old) (S.faults input.new) }
+    ensures read_fault { result.status ≡ Status.ReadFault
+        → WroteToFault (machine_so_far built_in_setup) (W.block_of draws) result.falls.items
+        (outer S.left S.faults K.taken K.faults L.state input.old output.old lab)
+        (outer S.left S.faults K.taken K.faults L.state input.new output.new result.lab) }
     // 4: a front of what is told was written.
-    ensures write_fault { result.status ≡ Status.WriteFault → WroteFrontOf (machine_so_far built_in_setup) (W.block_of draws) (is_trial words.now) (S.left input.old)
-        (K.taken output.old) (K.taken output.new) (L.state result.lab) }
-    ensures write_cause { result.status ≡ Status.WriteFault → Rose (K.faults output.old) (K.faults output.new) }
+    ensures write_fault { result.status ≡ Status.WriteFault
+        → WroteFrontOf (machine_so_far built_in_setup) (W.block_of draws) (is_trial words.now) result.falls.items
+        (outer S.left S.faults K.taken K.faults L.state input.old output.old lab)
+        (outer S.left S.faults K.taken K.faults L.state input.new output.new result.lab) }
     // 5: what is told up to there was written.
-    ensures disk_fault { result.status ≡ Status.DiskFault → IfSome (S.left input.old) (λ script. WroteBroken (machine_so_far built_in_setup) (W.block_of draws) script
-        (K.taken output.old) (K.taken output.new) (L.state result.lab)) }
-    ensures disk_cause { result.status ≡ Status.DiskFault → Rose (L.state lab).faults (L.state result.lab).faults }
+    ensures disk_fault { result.status ≡ Status.DiskFault
+        → WroteBroken (machine_so_far built_in_setup) (W.block_of draws) result.falls.items
+        (outer S.left S.faults K.taken K.faults L.state input.old output.old lab)
+        (outer S.left S.faults K.taken K.faults L.state input.new output.new result.lab) }
     // 6: the report of the lines before the first faulty one, and its number.
-    ensures script_fault { result.status ≡ Status.ScriptFault → IfSome (S.left input.old) (λ script. WroteReport (machine_so_far built_in_setup) (W.block_of draws) Status.ScriptFault script
-        (K.taken output.old) (K.taken output.new) (L.state result.lab)) }
-    // Where no count of the outside rose, it ends as the definition says: 6 exactly at a script fault, else 0, or for want of memory.
-    ensures exact { is_trial words.now ≡ true → (Rose (S.faults input.old) (S.faults input.new) → ⊥) → (Rose (K.faults output.old) (K.faults output.new) → ⊥)
-        → (Rose (L.state lab).faults (L.state result.lab).faults → ⊥)
-        → (result.status ≡ Status.OutOfMemory) ⊎ IfSome (S.left input.old) (λ script. result.status ≡ told_status (machine_so_far built_in_setup) (W.block_of draws) script (L.state result.lab)) }
+    ensures script_fault { result.status ≡ Status.ScriptFault
+        → WroteReport (machine_so_far built_in_setup) (W.block_of draws) Status.ScriptFault result.falls.items
+        (outer S.left S.faults K.taken K.faults L.state input.old output.old lab)
+        (outer S.left S.faults K.taken K.faults L.state input.new output.new result.lab) }
     // 9: nothing was made.
     ensures no_memory { result.status ≡ Status.OutOfMemory → Appends (K.taken output.old) (K.taken output.new) no_memory_text }
-    // 7 would come exactly where an image that a power-on found shows no view. Each shows one, so it never comes.
-    ensures shown { All (IsShown (machine_so_far built_in_setup)) (L.state result.lab).found }
+    ensures unopened { IsUnopened result.status → (result.lab ≡ lab) × (result.draws ≡ draws) × (input.new ≡ input.old) }
+    // 3, 4 and 5 come only where a count of what failed rose.
+    ensures causes { HasCauses result.status (outer S.left S.faults K.taken K.faults L.state input.old output.old lab)
+        (outer S.left S.faults K.taken K.faults L.state input.new output.new result.lab) }
+    // Where no such count rose, it ends as the definition says, or for want of memory.
+    ensures exact { is_trial words.now ≡ true → (Rose (S.faults input.old) (S.faults input.new) → ⊥) → (Rose (K.faults output.old) (K.faults output.new) → ⊥)
+        → (Rose (L.state lab).faults (L.state result.lab).faults → ⊥)
+        → EndsAsTold (machine_so_far built_in_setup) (W.block_of draws) result.status result.falls.items
+        (outer S.left S.faults K.taken K.faults L.state input.old output.old lab)
+        (outer S.left S.faults K.taken K.faults L.state input.new output.new result.lab) }
     ensures built { IsBuilt result.status }
-    ensures unopened { IsUnopened result.status → (result.lab ≡ lab) × (result.draws ≡ draws) }
-    ensures disk { result.disk ≡ disk }
+    // The blocks are such that each legal history keeps all rules of a view (`all_rules_kept`).
+    ensures blocks { AreBlocks (W.block_of draws) }
     // No line arms a cut yet.
-    ensures falls { result.falls.items ≡ [] }
+    ensures no_falls { result.falls.items ≡ [] }
+    ensures disk { result.disk ≡ disk }
     ensures setup { setup.new ≡ setup.old }
 {
     let _setup = setup;

@@ -14,7 +14,7 @@ ghost use Rattle.gd_base.specs.Judging.SoFar.{is_drawn_so_far, rule_so_far};
 ghost use Rattle.gd_base.specs.Games.Stage.{is_bet};
 ghost use Rattle.gd_play.specs.Moving.{open_stage_of, play_with_round};
 ghost use Rattle.gd_play.specs.PlayMachine.{play_machine_stage, play_machine_play, play_machine_table};
-ghost use Rattle.gd_top.specs.Books.{AreFit, HasRoom, acted, begun, is_fresh, left_at, replied, settled, view_of, with_bill, with_wager};
+ghost use Rattle.gd_top.specs.FirstCore.Books.{AreFit, HasRoom, acted, begun, is_fresh, left_at, replied, settled, view_of, with_bill, with_wager};
 
 use super::books::{Books, add};
 use super::judging::{judge_bill, judge_play};

@@ -4,7 +4,7 @@ ghost use Rattle.std.specs.Prelude.{◌≡◌, ◌+◌, ◌<◌, ◌^◌, Option
 ghost use Rattle.gd_base.specs.declared.play.PlayRecord.{PlayRecord as PlayData};
 ghost use Rattle.gd_base.specs.Histories.Meters.{handpay_amount};
 ghost use Rattle.gd_base.specs.Payloads.ViewRules.{income as income_of, outgo as outgo_of, is_balanced};
-ghost use Rattle.gd_top.specs.Books.{view_of};
+ghost use Rattle.gd_top.specs.FirstCore.Books.{view_of};
 
 use super::books::Books;
 

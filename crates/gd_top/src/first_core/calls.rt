@@ -8,7 +8,7 @@ ghost use Rattle.gd_base.specs.Judging.SoFar.{machine_so_far};
 ghost use Rattle.gd_base.specs.Histories.View.{View};
 ghost use Rattle.gd_base.specs.Payloads.ViewCode.{coded_view};
 ghost use Rattle.gd_play.specs.PlayMachine.{play_machine_play};
-ghost use Rattle.gd_top.specs.Books.{view_of};
+ghost use Rattle.gd_top.specs.FirstCore.Books.{view_of};
 
 use super::FirstCore;
 use super::acting::act;

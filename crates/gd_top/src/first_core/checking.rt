@@ -7,8 +7,8 @@ ghost use Rattle.gd_base.specs.Payloads.Bytes.{payload_of};
 ghost use Rattle.gd_base.specs.Judging.SoFar.{keeps_rules_so_far, spelled_so_far};
 ghost use Rattle.gd_base.specs.Payloads.ViewRules.{is_balanced, is_choice_value, is_open_as};
 ghost use Rattle.gd_base.specs.Judging.Product.{same_numbers};
-ghost use Rattle.gd_top.specs.Books.{view_of, spelled_by};
-ghost use Rattle.gd_top.specs.Checks.{are_counts, is_one_of, is_open_at};
+ghost use Rattle.gd_top.specs.FirstCore.Books.{view_of, spelled_by};
+ghost use Rattle.gd_top.specs.FirstCore.Checks.{are_counts, is_one_of, is_open_at};
 
 use super::balancing::are_balanced;
 use super::books::Books;

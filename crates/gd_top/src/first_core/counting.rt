@@ -3,7 +3,7 @@
 ghost use Rattle.std.specs.Prelude.{◌≡◌, ◌+◌, ◌==◌, drop, nat_le, sum_by};
 ghost use Rattle.std.specs.List.{list_all};
 ghost use Rattle.gd_base.specs.Payloads.ViewRules.{is_flagged_last};
-ghost use Rattle.gd_top.specs.Checks.{are_counts};
+ghost use Rattle.gd_top.specs.FirstCore.Checks.{are_counts};
 
 use super::books::Books;
 use gd_base::{MOST_ENTRIES, Reply};

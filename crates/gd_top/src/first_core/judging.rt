@@ -6,7 +6,7 @@ ghost use Rattle.gd_base.specs.declared.game.Game.{Game};
 ghost use Rattle.gd_base.specs.declared.play.PlayRecord.{PlayRecord};
 ghost use Rattle.gd_base.specs.Histories.Credit.{wager as wager_of};
 ghost use Rattle.gd_base.specs.Judging.Rule.{is_bill, rule};
-ghost use Rattle.gd_top.specs.Books.{view_of};
+ghost use Rattle.gd_top.specs.FirstCore.Books.{view_of};
 
 use super::books::Books;
 use gd_base::{Condition, Refusal, Reply, Setup};

@@ -6,7 +6,7 @@ ghost use Rattle.gd_base.specs.declared.game.Game.{Game};
 ghost use Rattle.gd_base.specs.Histories.Rounds.{choices_of};
 ghost use Rattle.gd_base.specs.Payloads.ViewRules.{is_placed, all_true, is_choice_value};
 ghost use Rattle.gd_base.specs.Games.Stage.{has_pick as has_pick_of, are_choices, is_bet, is_choice};
-ghost use Rattle.gd_top.specs.Checks.{is_going_on, is_open_at, is_plain_record, is_staged, number_widths, words_widths};
+ghost use Rattle.gd_top.specs.FirstCore.Checks.{is_going_on, is_open_at, is_plain_record, is_staged, number_widths, words_widths};
 
 use super::reels_table::reels_stage;
 use gd_base::{Block, Choices, Game, PlayRecord, Setup, StageOpen};

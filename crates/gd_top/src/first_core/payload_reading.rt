@@ -3,7 +3,7 @@
 ghost use Rattle.std.specs.Prelude.{◌≡◌, ◌≤◌, ◌+◌, length};
 ghost use Rattle.gd_base.specs.Payloads.Reading.{number_at, short_at, sixteen_at, kept_read, handpay_read, play_read, open_read, game_of, choice_of, reply_of, refusal_of, condition_of};
 ghost use Rattle.gd_base.specs.Judging.SoFar.{view_at};
-ghost use Rattle.gd_top.specs.Books.{view_of};
+ghost use Rattle.gd_top.specs.FirstCore.Books.{view_of};
 
 use super::books::Books;
 use gd_base::{

@@ -4,7 +4,7 @@ ghost use Rattle.std.specs.Prelude.{◌≡◌, ◌≤◌, ◌+◌, ◌*◌, [], 
 ghost use Rattle.gd_base.specs.Payloads.Bytes.{four, eight, kept_bytes, reply_kind, reply_refusal, reply_condition, handpay_bytes, choice_code, play_bytes, open_bytes, head_bytes, filled_part, payload_of};
 ghost use Rattle.gd_base.specs.Histories.Numbers.{refusal_number, refusal_condition, condition_number, game_number};
 ghost use Rattle.gd_base.specs.Payloads.ViewRules.{is_choice_value};
-ghost use Rattle.gd_top.specs.Books.{view_of, put_at};
+ghost use Rattle.gd_top.specs.FirstCore.Books.{view_of, put_at};
 
 use super::books::Books;
 use gd_base::{

@@ -9,7 +9,7 @@ ghost use Rattle.gd_base.specs.Setups.SetupRules.{are_strips, is_letter};
 ghost use Rattle.gd_base.specs.Payloads.ViewRules.{is_choice_value, is_open_as};
 ghost use Rattle.gd_base.specs.Games.Stage.{stage};
 ghost use Rattle.gd_base.specs.Texts.OfViews.{lines_of_open, open_lines, pick_line, play_head, spaced_texts, stage_line};
-ghost use Rattle.gd_top.specs.Checks.{is_in_order};
+ghost use Rattle.gd_top.specs.FirstCore.Checks.{is_in_order};
 
 use super::reels_table::reels_stage;
 use gd_base::{Choices, PlayRecord, Setup, Stage, TEXT_LEN, Text, push_number};

@@ -6,7 +6,7 @@ ghost use Rattle.gd_base.specs.Histories.Devices.{kept_at};
 ghost use Rattle.gd_base.specs.Histories.Entry.{device_of};
 ghost use Rattle.gd_base.specs.Histories.Numbers.{device_place};
 ghost use Rattle.gd_base.specs.Histories.Devices.{with_reply};
-ghost use Rattle.gd_top.specs.Books.{AreWords, with_note};
+ghost use Rattle.gd_top.specs.FirstCore.Books.{AreWords, with_note};
 
 use super::books::Books;
 use super::open_play::words_fit;

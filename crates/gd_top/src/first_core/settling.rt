@@ -2,7 +2,7 @@
 
 ghost use Rattle.std.specs.Prelude.{◌≡◌, ◌≤◌, ◌<◌, ◌^◌, IsSome, IfSome};
 ghost use Rattle.gd_play.specs.PlayMachine.{play_machine_stage, play_machine_play, play_machine_table};
-ghost use Rattle.gd_top.specs.Books.{HasRoom, left_at, settled, with_win};
+ghost use Rattle.gd_top.specs.FirstCore.Books.{HasRoom, left_at, settled, with_win};
 
 use super::books::{Books, add};
 use super::reels_table::ReelsTable;

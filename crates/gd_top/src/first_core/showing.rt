@@ -7,8 +7,8 @@ ghost use Rattle.gd_base.specs.Judging.SoFar.{keeps_rules_so_far};
 ghost use Rattle.gd_base.specs.Payloads.ViewRules.{is_open_as};
 ghost use Rattle.gd_base.specs.Texts.OfViews.{condition_text, handpay_text, state_text};
 ghost use Rattle.gd_base.specs.Judging.Product.{text};
-ghost use Rattle.gd_top.specs.Books.{view_of};
-ghost use Rattle.gd_top.specs.Checks.{is_in_order};
+ghost use Rattle.gd_top.specs.FirstCore.Books.{view_of};
+ghost use Rattle.gd_top.specs.FirstCore.Checks.{is_in_order};
 
 use super::books::Books;
 use super::play_lines::push_play;

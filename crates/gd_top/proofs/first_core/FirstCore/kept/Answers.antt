@@ -2,8 +2,8 @@ use Rattle.std.proofs.Common.{◌≡◌, ap, arith}
 use Rattle.gd_base.specs.Histories.Devices.{kept_at}
 use Rattle.gd_base.specs.Histories.Numbers.{device_place}
 use Rattle.gd_play.specs.PlayMachine.{play_machine_stage, play_machine_play, play_machine_table}
-use Rattle.gd_top.proofs.Kept.{Kept, kept_small}
-use Rattle.gd_top.proofs.Plays.{kept_by_fit}
+use Rattle.gd_top.proofs.FirstCoreLemmas.Kept.{Kept, kept_small}
+use Rattle.gd_top.proofs.FirstCoreLemmas.Plays.{kept_by_fit}
 use Rattle.gd_top.proofs.first_core.FirstCore.kept.Goals as goal
 
 pub returns-clause-small : goal.returns-clause-small

@@ -5,8 +5,8 @@ use Rattle.gd_base.specs.declared.refusal.Reply.{Reply}
 use Rattle.gd_base.specs.Judging.SoFar.{rule_so_far}
 use Rattle.gd_base.proofs.SoFarLemmas.Rules.{counts_at}
 use Rattle.gd_play.specs.PlayMachine.{play_machine_stage, play_machine_play, play_machine_table}
-use Rattle.gd_top.specs.Books.{acted, view_of}
-use Rattle.gd_top.proofs.Plays.{kept_by_fit, bill_view, start_view, stands}
+use Rattle.gd_top.specs.FirstCore.Books.{acted, view_of}
+use Rattle.gd_top.proofs.FirstCoreLemmas.Plays.{kept_by_fit, bill_view, start_view, stands}
 use Rattle.gd_top.proofs.first_core.acting.act.Goals as goal
 
 pub add-requires : goal.add-requires

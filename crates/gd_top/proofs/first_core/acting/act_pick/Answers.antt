@@ -6,8 +6,8 @@ use Rattle.gd_base.specs.declared.setup.Setup.{Setup}
 use Rattle.gd_play.specs.Judging.{refusal, judgement}
 use Rattle.gd_play.specs.Moving.{stage_after, play_after}
 use Rattle.gd_play.specs.PlayMachine.{play_machine_stage, play_machine_play, play_machine_table}
-use Rattle.gd_top.specs.Books.{acted, replied, view_of}
-use Rattle.gd_top.proofs.Plays.{IsTried, kept_by_fit, room_by, stands, small_by, picked_small, pick_answer, pick_tried, err_map, err_both}
+use Rattle.gd_top.specs.FirstCore.Books.{acted, replied, view_of}
+use Rattle.gd_top.proofs.FirstCoreLemmas.Plays.{IsTried, kept_by_fit, room_by, stands, small_by, picked_small, pick_answer, pick_tried, err_map, err_both}
 use Rattle.gd_top.proofs.first_core.acting.act_pick.Goals as goal
 
 pub returns-then-is_some-clause-view : goal.returns-then-is_some-clause-view

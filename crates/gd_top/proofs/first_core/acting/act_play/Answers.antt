@@ -9,8 +9,8 @@ use Rattle.gd_base.specs.Judging.Rule.{rule}
 use Rattle.gd_base.specs.Judging.SoFar.{is_drawn_so_far}
 use Rattle.gd_base.proofs.SoFarLemmas.Rules.{counts_at}
 use Rattle.gd_play.specs.PlayMachine.{play_machine_stage, play_machine_play, play_machine_table}
-use Rattle.gd_top.specs.Books.{view_of}
-use Rattle.gd_top.proofs.Plays.{kept_by_fit, room_by, stands_by, drawn, copied_some, begun_views}
+use Rattle.gd_top.specs.FirstCore.Books.{view_of}
+use Rattle.gd_top.proofs.FirstCoreLemmas.Plays.{kept_by_fit, room_by, stands_by, drawn, copied_some, begun_views}
 use Rattle.gd_top.proofs.first_core.acting.act_play.Goals as goal
 
 pub returns-in_default-clause-view : goal.returns-in_default-clause-view

@@ -1,6 +1,6 @@
 use Rattle.std.proofs.Common.{subst, sym}
 use Rattle.gd_play.specs.PlayMachine.{play_machine_table}
-use Rattle.gd_top.proofs.Plays.{IsSmall, fresh_plain, fresh_small}
+use Rattle.gd_top.proofs.FirstCoreLemmas.Plays.{IsSmall, fresh_plain, fresh_small}
 use Rattle.gd_top.proofs.first_core.acting.begin.Goals as goal
 
 pub settle-requires-clause-win : goal.settle-requires-clause-win

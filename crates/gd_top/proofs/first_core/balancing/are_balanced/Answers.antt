@@ -1,7 +1,7 @@
 use Rattle.std.proofs.Common.{◌∙◌, ap, refl, ℕ, ◌*◌, nat_le}
 use Rattle.gd_base.specs.Payloads.ViewRules.{income, outgo}
-use Rattle.gd_top.specs.Books.{view_of}
-use Rattle.gd_top.proofs.Checked.{both_tests, first_holds, first_fails}
+use Rattle.gd_top.specs.FirstCore.Books.{view_of}
+use Rattle.gd_top.proofs.FirstCoreLemmas.Checked.{both_tests, first_holds, first_fails}
 use Rattle.gd_top.proofs.first_core.balancing.are_balanced.Goals as goal
 
 pub returns-then-outgo-income : goal.returns-then-outgo-income

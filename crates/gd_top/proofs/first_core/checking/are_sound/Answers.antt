@@ -1,8 +1,8 @@
 use Rattle.std.proofs.Common.{◌∙◌, sym}
 use Rattle.gd_base.specs.Payloads.ViewRules.{is_balanced}
-use Rattle.gd_top.specs.Books.{view_of}
-use Rattle.gd_top.specs.Checks.{are_counts}
-use Rattle.gd_top.proofs.Checked.{second_of}
+use Rattle.gd_top.specs.FirstCore.Books.{view_of}
+use Rattle.gd_top.specs.FirstCore.Checks.{are_counts}
+use Rattle.gd_top.proofs.FirstCoreLemmas.Checked.{second_of}
 use Rattle.gd_top.proofs.first_core.checking.are_sound.Goals as goal
 
 pub returns-then-are_counted : goal.returns-then-are_counted

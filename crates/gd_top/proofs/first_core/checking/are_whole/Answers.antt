@@ -1,9 +1,9 @@
 use Rattle.std.proofs.Common.{◌∙◌, sym, ◌&&◌, IfSome, IsTrue}
 use Rattle.std.proofs.lemmas.Bool.{OnTrue_from}
 use Rattle.gd_base.specs.Payloads.ViewRules.{is_balanced, is_choice_value, is_open_as}
-use Rattle.gd_top.specs.Books.{view_of}
-use Rattle.gd_top.specs.Checks.{are_counts, is_one_of, is_open_at}
-use Rattle.gd_top.proofs.Checked.{second_of, not_first, whole_is, choice_told}
+use Rattle.gd_top.specs.FirstCore.Books.{view_of}
+use Rattle.gd_top.specs.FirstCore.Checks.{are_counts, is_one_of, is_open_at}
+use Rattle.gd_top.proofs.FirstCoreLemmas.Checked.{second_of, not_first, whole_is, choice_told}
 use Rattle.gd_top.proofs.first_core.checking.are_whole.Goals as goal
 
 pub returns-then-are_sound-clause-whole : goal.returns-then-are_sound-clause-whole

@@ -2,7 +2,7 @@ use Rattle.std.proofs.Common.{◌∙◌, ap, List, ℕ, Option}
 use Rattle.gd_base.specs.declared.play.PlayRecord.{PlayRecord}
 use Rattle.gd_base.specs.Payloads.Bytes.{payload_of}
 use Rattle.gd_base.specs.Judging.Product.{same_numbers}
-use Rattle.gd_top.specs.Books.{view_of}
+use Rattle.gd_top.specs.FirstCore.Books.{view_of}
 use Rattle.gd_top.proofs.first_core.checking.is_payload_of.Goals as goal
 
 pub returns : goal.returns

@@ -1,7 +1,7 @@
 use Rattle.std.proofs.Common.{◌∙◌, ap, sym, Option}
 use Rattle.gd_base.specs.declared.play.PlayRecord.{PlayRecord}
-use Rattle.gd_top.specs.Books.{view_of}
-use Rattle.gd_top.proofs.Spelling.{not_whole, not_same, shown}
+use Rattle.gd_top.specs.FirstCore.Books.{view_of}
+use Rattle.gd_top.proofs.FirstCoreLemmas.Spelling.{not_whole, not_same, shown}
 use Rattle.gd_top.proofs.first_core.checking.read_payload.Goals as goal
 
 pub returns-then-not-are_whole-clause-spelled : goal.returns-then-not-are_whole-clause-spelled

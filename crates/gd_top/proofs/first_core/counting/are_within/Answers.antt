@@ -1,6 +1,6 @@
 use Rattle.std.proofs.Common.{◌∙◌, ap, List, ℕ, nat_le}
 use Rattle.std.specs.List.{list_all}
-use Rattle.gd_top.proofs.Checked.{last_seven}
+use Rattle.gd_top.proofs.FirstCoreLemmas.Checked.{last_seven}
 use Rattle.gd_top.proofs.first_core.counting.are_within.Goals as goal
 
 pub returns : goal.returns

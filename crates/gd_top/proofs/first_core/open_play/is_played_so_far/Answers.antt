@@ -1,5 +1,5 @@
 use Rattle.std.proofs.Common.{◌∙◌, sym}
-use Rattle.gd_top.proofs.Checked.{going_is}
+use Rattle.gd_top.proofs.FirstCoreLemmas.Checked.{going_is}
 use Rattle.gd_top.proofs.first_core.open_play.is_played_so_far.Goals as goal
 
 pub returns-then-play-wager : goal.returns-then-play-wager

@@ -1,5 +1,5 @@
 use Rattle.std.proofs.Common.{arith}
-use Rattle.gd_top.proofs.Checked.{each_below}
+use Rattle.gd_top.proofs.FirstCoreLemmas.Checked.{each_below}
 use Rattle.gd_top.proofs.first_core.open_play.words_fit.Goals as goal
 
 pub returns : goal.returns

@@ -1,8 +1,8 @@
 use Rattle.std.proofs.Common.{◌∙◌, ◌+◌, ◌*◌, ◌<◌, length, arith, None}
 use Rattle.gd_base.specs.declared.layout.TheConstants.{KEPT_LEN}
 use Rattle.gd_base.specs.Payloads.Bytes.{kept_bytes}
-use Rattle.gd_top.specs.Books.{put_at}
-use Rattle.gd_top.proofs.Head.{kept_long, row_more}
+use Rattle.gd_top.specs.FirstCore.Books.{put_at}
+use Rattle.gd_top.proofs.FirstCoreLemmas.Head.{kept_long, row_more}
 use Rattle.gd_top.proofs.first_core.payload_writing.put_kept.Goals as goal
 
 pub loop-i-preserved : goal.loop-i-preserved

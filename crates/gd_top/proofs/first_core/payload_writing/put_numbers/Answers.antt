@@ -1,7 +1,7 @@
 use Rattle.std.proofs.Common.{◌∙◌, ap, ◌+◌, ◌*◌, ◌<◌, List, ℕ, get_or, length, arith}
 use Rattle.gd_base.specs.Payloads.Bytes.{eight}
-use Rattle.gd_top.specs.Books.{put_at}
-use Rattle.gd_top.proofs.Head.{eight_long, row_more}
+use Rattle.gd_top.specs.FirstCore.Books.{put_at}
+use Rattle.gd_top.proofs.FirstCoreLemmas.Head.{eight_long, row_more}
 use Rattle.gd_top.proofs.first_core.payload_writing.put_numbers.Goals as goal
 
 pub loop-i-preserved : goal.loop-i-preserved

@@ -1,7 +1,7 @@
 use Rattle.std.proofs.Common.{◌≡◌, take}
 use Rattle.std.specs.List.{flat_map}
 use Rattle.gd_base.specs.Payloads.Bytes.{eight}
-use Rattle.gd_top.specs.Books.{put_at}
+use Rattle.gd_top.specs.FirstCore.Books.{put_at}
 use Rattle.gd_top.proofs.first_core.payload_writing.put_numbers.Given as goal
 
 abbrev pub invariant-loop-i : goal.invariant-loop-i

@@ -1,8 +1,8 @@
 use Rattle.std.proofs.Common.{◌≡◌, ◌∙◌, ◌+◌, ap, length, List, ℕ, rules}
 use Rattle.std.specs.List.{flat_map}
 use Rattle.gd_base.specs.Payloads.Bytes.{eight}
-use Rattle.gd_top.specs.Books.{put_at}
-use Rattle.gd_top.proofs.OpenPlay.{amounts, play_long, play_written}
+use Rattle.gd_top.specs.FirstCore.Books.{put_at}
+use Rattle.gd_top.proofs.FirstCoreLemmas.OpenPlay.{amounts, play_long, play_written}
 use Rattle.gd_top.proofs.first_core.payload_writing.put_play.Goals as goal
 
 pub returns-clause-written : goal.returns-clause-written

@@ -2,8 +2,8 @@ use Rattle.std.proofs.Common.{◌≡◌, ◌∙◌, ap, length, List, ℕ, rules
 use Rattle.std.specs.List.{flat_map}
 use Rattle.gd_base.specs.declared.layout.TheConstants.{COUNT_AT, BALANCE_AT, TOTALS_AT, HANDPAY_AT, KEPT_AT}
 use Rattle.gd_base.specs.Payloads.Bytes.{eight, kept_bytes}
-use Rattle.gd_top.specs.Books.{put_at}
-use Rattle.gd_top.proofs.Head.{head_written}
+use Rattle.gd_top.specs.FirstCore.Books.{put_at}
+use Rattle.gd_top.proofs.FirstCoreLemmas.Head.{head_written}
 use Rattle.gd_top.proofs.first_core.payload_writing.write_head.Goals as goal
 
 pub returns : goal.returns

@@ -2,8 +2,8 @@ use Rattle.std.proofs.Common.{◌∙◌, ◌++◌, ap, replicate, take, drop, Li
 use Rattle.std.proofs.lemmas.List.{drop-replicate, take-replicate}
 use Rattle.gd_base.specs.declared.layout.TheConstants.{HEAD_LEN, PAYLOAD_LEN}
 use Rattle.gd_base.specs.Payloads.Bytes.{filled_part, head_bytes, open_bytes}
-use Rattle.gd_top.specs.Books.{view_of, put_at}
-use Rattle.gd_top.proofs.OpenPlay.{rest_written}
+use Rattle.gd_top.specs.FirstCore.Books.{view_of, put_at}
+use Rattle.gd_top.proofs.FirstCoreLemmas.OpenPlay.{rest_written}
 use Rattle.gd_top.proofs.first_core.payload_writing.write_payload.Goals as goal
 
 pub write_head-requires : goal.write_head-requires

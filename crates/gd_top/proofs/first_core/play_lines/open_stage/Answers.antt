@@ -1,4 +1,4 @@
-use Rattle.gd_top.proofs.PlayLines.{in_order}
+use Rattle.gd_top.proofs.FirstCoreLemmas.PlayLines.{in_order}
 use Rattle.gd_top.proofs.first_core.play_lines.open_stage.Goals as goal
 
 pub reels_stage-requires-clause-choices : goal.reels_stage-requires-clause-choices

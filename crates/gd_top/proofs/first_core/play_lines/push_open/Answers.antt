@@ -1,6 +1,6 @@
 use Rattle.std.proofs.Common.{◌∙◌, ap, List, ℕ, ◌++◌, codes}
 use Rattle.gd_base.specs.Texts.OfViews.{spaced_texts, play_head, pick_line, stage_line}
-use Rattle.gd_top.proofs.PlayLines.{in_order, open_lines_are, appended}
+use Rattle.gd_top.proofs.FirstCoreLemmas.PlayLines.{in_order, open_lines_are, appended}
 use Rattle.gd_top.proofs.first_core.play_lines.push_open.Goals as goal
 
 pub returns-clause-bytes : goal.returns-clause-bytes

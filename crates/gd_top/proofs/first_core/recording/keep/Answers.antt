@@ -1,5 +1,5 @@
 use Rattle.std.proofs.Common.{◌∙◌, ap, ℕ, slice_set, Some}
-use Rattle.gd_top.proofs.Kept.{kept_set}
+use Rattle.gd_top.proofs.FirstCoreLemmas.Kept.{kept_set}
 use Rattle.gd_top.proofs.first_core.recording.keep.Goals as goal
 
 pub returns : goal.returns

@@ -1,6 +1,6 @@
 use Rattle.std.proofs.Common.{◌∙◌, ap, sym, ℕ, slice_index_or, None}
 use Rattle.gd_base.specs.Histories.Numbers.{device_place}
-use Rattle.gd_top.proofs.Kept.{Kept, kept_is}
+use Rattle.gd_top.proofs.FirstCoreLemmas.Kept.{Kept, kept_is}
 use Rattle.gd_top.proofs.first_core.recording.kept_of.Goals as goal
 
 pub returns : goal.returns

@@ -2,9 +2,9 @@ use Rattle.std.proofs.Common.{◌∙◌, ap, sym, refl, List, ℕ, ◌++◌, cod
 use Rattle.std.specs.Option.{option_copied}
 use Rattle.gd_base.specs.declared.step.What.{What}
 use Rattle.gd_base.specs.Judging.Product.{text}
-use Rattle.gd_top.specs.Books.{view_of}
-use Rattle.gd_top.proofs.Checked.{order_told}
-use Rattle.gd_top.proofs.PlayLines.{none_recalled}
+use Rattle.gd_top.specs.FirstCore.Books.{view_of}
+use Rattle.gd_top.proofs.FirstCoreLemmas.Checked.{order_told}
+use Rattle.gd_top.proofs.FirstCoreLemmas.PlayLines.{none_recalled}
 use Rattle.gd_top.proofs.first_core.showing.show_view.Goals as goal
 
 pub push_state-requires-clause-order : goal.push_state-requires-clause-order

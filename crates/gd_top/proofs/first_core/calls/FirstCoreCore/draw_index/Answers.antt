@@ -1,7 +1,7 @@
 use Rattle.std.proofs.Common.{arith}
 use Rattle.gd_base.proofs.SoFarLemmas.Rules.{counts_at}
 use Rattle.gd_play.specs.PlayMachine.{play_machine_stage, play_machine_play, play_machine_table}
-use Rattle.gd_top.proofs.Plays.{kept_by_fit}
+use Rattle.gd_top.proofs.FirstCoreLemmas.Plays.{kept_by_fit}
 use Rattle.gd_top.proofs.first_core.calls.FirstCoreCore.draw_index.Goals as goal
 
 pub overflow_add-result : goal.overflow_add-result

@@ -1,4 +1,4 @@
-use Rattle.gd_top.proofs.Loaded.{loaded_games, loaded_rules}
+use Rattle.gd_top.proofs.FirstCoreLemmas.Loaded.{loaded_games, loaded_rules}
 use Rattle.gd_top.proofs.first_core.calls.FirstCoreCore.load.Goals as goal
 
 pub from_parts-self-requires-clause-games : goal.from_parts-self-requires-clause-games

@@ -11,11 +11,11 @@ use Rattle.gd_base.specs.Judging.SoFar.{machine_so_far, is_drawn_so_far, keeps_r
 use Rattle.gd_base.specs.Histories.Devices.{with_reply}
 use Rattle.gd_base.proofs.AnswerLemmas.Answer.{answer_new}
 use Rattle.gd_play.specs.PlayMachine.{play_machine_stage, play_machine_play, play_machine_table}
-use Rattle.gd_top.specs.Books.{view_of}
+use Rattle.gd_top.specs.FirstCore.Books.{view_of}
 use Rattle.gd_top.specs.declared.first_core.reels_table.ReelsTable.{ReelsTable}
-use Rattle.gd_top.proofs.Plays.{kept_by_fit}
-use Rattle.gd_top.proofs.Wholes.{after_entry, whole_after}
-use Rattle.gd_top.proofs.Kept.{Kept}
+use Rattle.gd_top.proofs.FirstCoreLemmas.Plays.{kept_by_fit}
+use Rattle.gd_top.proofs.FirstCoreLemmas.Wholes.{after_entry, whole_after}
+use Rattle.gd_top.proofs.FirstCoreLemmas.Kept.{Kept}
 use Rattle.gd_top.proofs.first_core.calls.FirstCoreCore.step.Goals as goal
 
 pub invariant_of-self : goal.invariant_of-self

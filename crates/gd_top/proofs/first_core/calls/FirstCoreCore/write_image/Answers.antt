@@ -4,7 +4,7 @@ use Rattle.gd_base.specs.Payloads.Bytes.{payload_of}
 use Rattle.gd_base.specs.Judging.SoFar.{spelled_so_far}
 use Rattle.gd_base.proofs.SoFarLemmas.Bytes.{spelled_back}
 use Rattle.gd_play.specs.PlayMachine.{play_machine_play}
-use Rattle.gd_top.specs.Books.{view_of}
+use Rattle.gd_top.specs.FirstCore.Books.{view_of}
 use Rattle.gd_top.proofs.first_core.calls.FirstCoreCore.write_image.Goals as goal
 
 pub returns : goal.returns

@@ -1,0 +1,8 @@
+-- The definition of a run, and parts of the code against it.
+pub mod Joins
+pub mod Legal
+pub mod Stays
+pub mod Equations
+pub mod Parts
+pub mod Said
+pub mod Standings

@@ -1,0 +1,4 @@
+-- Bytes and lines.
+pub mod Pieces
+pub mod Scripts
+pub mod Reading

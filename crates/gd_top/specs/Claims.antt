@@ -1,0 +1,5 @@
+-- What the public calls claim.
+pub mod MemoryLeft
+pub mod OneHistory
+pub mod NothingLost
+pub mod Trial

@@ -1,0 +1,225 @@
+-- What a whole trial wrote and left, by its status. Each fact speaks of what is told, on one side, and on the other of what the
+-- sink took, of what the laboratory found and counted, and of the images that may be found.
+use Rattle.std.specs.Prelude.{◌≡◌, ◌⊎◌, ◌≤◌, ◌<◌, ℕ, ◌+◌, Bool, true, false, List, [], ◌∷◌, ◌++◌, length, codes, decimal, Option, None, IfSome, Result, Ok, Err}
+use Rattle.std.specs.Io.KnownBytes.{Appends, Consumes, IsAtEnd}
+use Rattle.std.specs.Borrow.{Bor}
+use Rattle.std.specs.Str.{bytes_eq}
+use Rattle.gd_base.specs.Outside.Causes.{AppendsFront, Rose}
+use Rattle.gd_base.specs.Judging.Machine.{Machine, Blocks}
+use Rattle.gd_disk.specs.Disk.{DiskState}
+use Rattle.gd_script.specs.declared.item.Item.{Item}
+use Rattle.gd_top.specs.Claims.MemoryLeft.{IsExplained, IsLeft, IsLeftAt, IsLeftBroken, first_syncs}
+use Rattle.gd_top.specs.Claims.OneHistory.{HasLegalHistory}
+use Rattle.gd_top.specs.Run.Life.{trial_meaning, report_of, report_at_read_fault, status_of, end_line, end_status, last_line}
+use Rattle.gd_top.specs.Run.Offers.{AreArmed}
+use Rattle.gd_top.specs.Run.Starts.{starts_in}
+use Rattle.gd_top.specs.Run.State.{Start, Part, Phase, Goes, Breaks}
+use Rattle.gd_top.specs.Script.Lines.{script_of, whole_lines, ShowsNoFault}
+use Rattle.gd_top.specs.declared.halt.Halt.{Halt}
+use Rattle.gd_top.specs.declared.status.Status.{Status}
+
+-- what stands outside of a trial at a moment: the input, the sink and the laboratory
+pub record Outer : Type 1 where
+  pub left : Option (List ℕ)  -- the bytes that the input has, where it tells them
+  pub read_faults : ℕ
+  pub taken : Option (List ℕ)  -- the bytes that the sink took, where it tells them
+  pub write_faults : ℕ
+  pub disk : DiskState
+
+abbrev pub outer : {S K L : Type 0} → (S → Option (List ℕ)) → (S → ℕ) → (K → Option (List ℕ)) → (K → ℕ) → (L → DiskState) → S → K → L → Outer
+outer left read_faults taken write_faults state input output lab =
+    record { left = left input; read_faults = read_faults input; taken = taken output; write_faults = write_faults output; disk = state lab }
+
+-- ================ a run that neither the disk nor the sink ended
+
+-- All that was found and all falls are used up, the cuts are those that are told, and without a fall the syncs are those of the
+-- making and of the offers. The history is legal, and the memory is left as it is told.
+pub record IsWhole {V : Type 0} (M : Machine V) (B : Blocks) (run : Part V) (was now : Outer) : Type 0 where
+  pub legal : HasLegalHistory M B run.state
+  pub used_up : (run.state.starts ≡ []) × (run.state.falls ≡ [])
+  pub armed : AreArmed run.state.armed now.disk.armed
+  pub synced : run.state.fell ≡ 0 → now.disk.syncs ≡ was.disk.syncs + first_syncs + run.state.syncs
+  pub explained : IsExplained run.state
+  pub left : IsLeft M run.state now.disk
+
+-- 0 and 6: the whole report of a script was written, with its last line, and the run is told to end with this status. The script
+-- is that of the source, where it tells one.
+pub record WroteReport {V : Type 0} (M : Machine V) (B : Blocks) (status : Status) (falls : List ℕ) (was now : Outer) : Type 0 where
+  pub script : List ℕ
+  pub of_source : IfSome was.left (λ bytes. bytes ≡ script)
+  pub run : Part V
+  pub is_run : run ≡ trial_meaning M B (script_of script) falls (starts_in M now.disk.found) None
+  pub ended : status_of run.outcome run.state ≡ status
+  pub written : Appends was.taken now.taken (report_of M run)
+  pub whole : IsWhole M B run was now
+
+-- 3: the source failed. The lines whose LF was taken were carried out, whatever stands behind them, and what was taken shows no
+-- script fault.
+pub record WroteToFault {V : Type 0} (M : Machine V) (B : Blocks) (falls : List ℕ) (was now : Outer) : Type 0 where
+  pub came : List ℕ
+  pub consumed : Consumes was.left now.left came
+  pub begins : (more : List ℕ) → (others : List (Option Item)) × (script_of (came ++ more) ≡ whole_lines came ++ others)
+  pub run : Part V
+  pub is_run : run ≡ trial_meaning M B (whole_lines came) falls (starts_in M now.disk.found) None
+  pub goes : run.outcome ≡ Goes
+  pub faultless : ShowsNoFault came run.state.lines
+  pub written : Appends was.taken now.taken (report_at_read_fault run)
+  pub whole : IsWhole M B run was now
+
+-- ================ a run that the disk or the sink ended
+
+-- A run of the first lines of a script, over all that was found, or all but the image that was found last. It may end in an
+-- offer, or where no start is left.
+pub record FirstLines {V : Type 0} (M : Machine V) (B : Blocks) (falls : List ℕ) (was now : Outer) : Type 0 where
+  pub script : List ℕ
+  pub of_source : IfSome was.left (λ bytes. bytes ≡ script)
+  pub lines : List (Option Item)
+  pub begins : (others : List (Option Item)) × (script_of script ≡ lines ++ others)
+  pub starts : List (Start V)
+  pub unread : List (Start V)
+  pub of_found : starts_in M now.disk.found ≡ starts ++ unread
+  pub few : length unread ≤ 1
+  pub ends_at : Option ℕ
+  pub run : Part V
+  pub is_run : run ≡ trial_meaning M B lines falls starts ends_at
+  pub legal : HasLegalHistory M B run.state
+  pub used_up : (run.state.starts ≡ []) × (run.state.falls ≡ [])
+  pub armed : length now.disk.armed ≡ length run.state.armed
+  pub explained : IsExplained run.state
+
+-- the making of the first memory failed: of what it left nothing is said
+abbrev pub IsUnmade : (was now : Outer) → Type 0
+IsUnmade was now = (now.disk.found ≡ []) × (now.disk.syncs < was.disk.syncs + first_syncs)
+
+-- 5: the disk failed. What is told up to there was written.
+pub record WroteBroken {V : Type 0} (M : Machine V) (B : Blocks) (falls : List ℕ) (was now : Outer) : Type 0 where
+  pub first : FirstLines M B falls was now
+  pub breaks : first.run.outcome ≡ Breaks
+  pub written : Appends was.taken now.taken (report_of M first.run)
+  pub left : IsUnmade was now ⊎ IsLeftBroken M first.run.state now.disk
+
+-- Whether a run may have begun to write this last line: that of a whole script, one that tells a fault of the disk where its count
+-- rose, or one that tells a fault of the source where its count rose.
+abbrev pub IsLastLine : {V : Type 0} (M : Machine V) (B : Blocks) {falls : List ℕ} {was now : Outer} → FirstLines M B falls was now → List ℕ → Type 0
+IsLastLine M B {was = was} {now = now} first text =
+    ((text ≡ last_line M first.run.outcome first.run.state) × (first.run.outcome ≡ Breaks → ⊥) × (script_of first.script ≡ first.lines))
+    ⊎ (((text ≡ codes "disk fault\n") × (first.run.outcome ≡ Breaks) × Rose was.disk.faults now.disk.faults)
+    ⊎ ((text ≡ codes "read fault\n") × (first.run.outcome ≡ Goes) × Rose was.read_faults now.read_faults))
+
+-- What was written where the sink failed: all that the run prints and a front of its last line, or a front of what the run prints.
+-- All that is told before the last of these lines of the script was written.
+abbrev pub WroteSome : {V : Type 0} (M : Machine V) (B : Blocks) {falls : List ℕ} {was now : Outer} → FirstLines M B falls was now → Type 0
+WroteSome M B {falls = falls} {was = was} {now = now} first =
+    ((text : List ℕ) × IsLastLine M B first text × (part : List ℕ) × Appends was.taken now.taken (first.run.report ++ part) × (rest : List ℕ) × (part ++ rest ≡ text))
+    ⊎ (AppendsFront was.taken now.taken first.run.report
+    × ((first.lines ≡ [])
+    ⊎ ((earlier : List (Option Item)) × (line : Option Item) × (first.lines ≡ earlier ++ line ∷ [])
+    × (part : List ℕ) × Appends was.taken now.taken ((trial_meaning M B earlier falls first.starts first.ends_at).report ++ part))))
+
+-- 4: the sink failed
+pub record WroteFront {V : Type 0} (M : Machine V) (B : Blocks) (falls : List ℕ) (was now : Outer) : Type 0 where
+  pub first : FirstLines M B falls was now
+  pub written : WroteSome M B first
+  pub left : IsUnmade was now ⊎ IsLeftAt M first.run now.disk
+
+-- ================ by the status
+
+-- a trial ends with one of these
+abbrev pub TrialDone : {V : Type 0} → Machine V → Blocks → Status → List ℕ → (was now : Outer) → Type 0
+TrialDone M B Status.Done falls was now = WroteReport M B Status.Done falls was now × IsAtEnd now.left
+TrialDone M B Status.ScriptFault falls was now = WroteReport M B Status.ScriptFault falls was now
+TrialDone M B Status.ReadFault falls was now = WroteToFault M B falls was now
+TrialDone M B Status.DiskFault falls was now = WroteBroken M B falls was now
+TrialDone M B Status.WriteFault falls was now = WroteFront M B falls was now
+TrialDone M B _ falls was now = ⊥
+
+-- a status has its cause: a count of what failed rose
+pub record HasCauses (status : Status) (was now : Outer) : Type 0 where
+  pub read : status ≡ Status.ReadFault → Rose was.read_faults now.read_faults
+  pub write : status ≡ Status.WriteFault → Rose was.write_faults now.write_faults
+  pub disk : status ≡ Status.DiskFault → Rose was.disk.faults now.disk.faults
+
+-- ================ the last line
+
+-- the status of a run that ended before the end of its input
+abbrev pub halt_status : Halt → Status
+halt_status Halt.ScriptFault = Status.ScriptFault
+halt_status Halt.ReadFault = Status.ReadFault
+halt_status Halt.DiskFault = Status.DiskFault
+halt_status Halt.WriteFault = Status.WriteFault
+
+abbrev pub status_after : Result (Unit {0}) Halt → Phase → Status
+status_after (Ok done) phase = end_status phase
+status_after (Err halt) phase = halt_status halt
+
+-- by how the run ended, with so many lines carried out; where the sink failed there is none
+abbrev pub last_text : {V : Type 0} → Machine V → Result (Unit {0}) Halt → Phase → V → ℕ → List ℕ
+last_text M (Ok done) phase v lines = end_line M phase v
+last_text M (Err Halt.ScriptFault) phase v lines = codes "line " ++ decimal (lines + 1) ++ codes "\n"
+last_text M (Err Halt.ReadFault) phase v lines = codes "read fault\n"
+last_text M (Err Halt.DiskFault) phase v lines = codes "disk fault\n"
+last_text M (Err Halt.WriteFault) phase v lines = []
+
+-- the last line was given whole, or else a front of it
+abbrev pub GivesLast : (status result : Status) → (taken given : Option (List ℕ)) → List ℕ → Type 0
+GivesLast status result taken given text =
+    ((result ≡ status) × Appends taken given text) ⊎ ((result ≡ Status.WriteFault) × AppendsFront taken given text)
+
+-- ================ the whole program
+
+-- The words are exactly `trial`.
+abbrev pub is_trial : List (Bor (List ℕ)) → Bool
+is_trial [] = false
+is_trial (word ∷ []) = bytes_eq word.now (codes "trial")
+is_trial (word ∷ other ∷ words) = false
+
+abbrev pub usage_text : List ℕ
+usage_text = codes "usage\n"
+
+abbrev pub no_memory_text : List ℕ
+no_memory_text = codes "no memory\n"
+
+-- both statuses come before anything was made or read
+abbrev pub IsUnopened : Status → Type 0
+IsUnopened Status.Usage = Unit {0}
+IsUnopened Status.OutOfMemory = Unit {0}
+IsUnopened _ = ⊥
+
+-- where a write failed: in the one line of a refused command, or in a report
+abbrev pub WroteFrontOf : {V : Type 0} → Machine V → Blocks → Bool → List ℕ → (was now : Outer) → Type 0
+WroteFrontOf M B true falls was now = AppendsFront was.taken now.taken no_memory_text ⊎ WroteFront M B falls was now
+WroteFrontOf M B false falls was now = AppendsFront was.taken now.taken usage_text
+
+-- what a command did, by its status, the words being exactly `trial` or not
+abbrev pub CabinetDone : {V : Type 0} → Machine V → Blocks → (is_trial : Bool) → Status → List ℕ → (was now : Outer) → Type 0
+CabinetDone M B trial Status.Usage falls was now = (trial ≡ false) × Appends was.taken now.taken usage_text
+CabinetDone M B trial Status.OutOfMemory falls was now = (trial ≡ true) × Appends was.taken now.taken no_memory_text
+CabinetDone M B trial Status.WriteFault falls was now = WroteFrontOf M B trial falls was now
+CabinetDone M B trial status falls was now = (trial ≡ true) × TrialDone M B status falls was now
+
+-- the statuses that can come so far
+abbrev pub IsBuilt : Status → Type 0
+IsBuilt Status.Done = Unit {0}
+IsBuilt Status.Usage = Unit {0}
+IsBuilt Status.ReadFault = Unit {0}
+IsBuilt Status.WriteFault = Unit {0}
+IsBuilt Status.DiskFault = Unit {0}
+IsBuilt Status.ScriptFault = Unit {0}
+IsBuilt Status.OutOfMemory = Unit {0}
+IsBuilt _ = ⊥
+
+-- a trial that no fault of the outside ended ends with one of these
+abbrev pub IsEnd : Status → Type 0
+IsEnd Status.Done = Unit {0}
+IsEnd Status.ScriptFault = Unit {0}
+IsEnd Status.Locked = Unit {0}
+IsEnd _ = ⊥
+
+-- how the definition says that a trial of this script ends, over what was found and what fell
+abbrev pub status_meant : {V : Type 0} → Machine V → Blocks → (script falls : List ℕ) → DiskState → Status
+status_meant M B script falls disk = let run = trial_meaning M B (script_of script) falls (starts_in M disk.found) None in status_of run.outcome run.state
+
+-- Where no fault of the outside came: want of memory, or the status that is told, one of these.
+abbrev pub EndsAsTold : {V : Type 0} → Machine V → Blocks → Status → List ℕ → (was now : Outer) → Type 0
+EndsAsTold M B status falls was now = (status ≡ Status.OutOfMemory)
+    ⊎ (IsEnd status × (script : List ℕ) × IfSome was.left (λ bytes. bytes ≡ script) × (status ≡ status_meant M B script falls now.disk))

@@ -1,0 +1,6 @@
+//! A script: its bytes, its lines, and the lines carried out one after another.
+
+pub(crate) mod carrying;
+pub(crate) mod reader;
+#[cfg(test)]
+mod tests;

@@ -1,0 +1,165 @@
+//! The lines of a script, carried out one after another.
+
+ghost use Rattle.std.specs.Prelude.{◌≡◌, ◌≢◌, ◌≤◌, [], true, IfSome, Err, false};
+ghost use Rattle.std.specs.Io.KnownBytes.{prepend_known};
+ghost use Rattle.gd_base.specs.Outside.Causes.{Rose};
+ghost use Rattle.gd_script.specs.Grammar.{InGrammar};
+ghost use Rattle.gd_top.specs.Code.LinesDone.{LinesDone};
+ghost use Rattle.gd_top.specs.Code.Memory.{moment, CarriesOut, Leaves, Sits};
+ghost use Rattle.gd_top.specs.Script.Built.{is_built, is_built_event, is_comment};
+ghost use Rattle.gd_top.specs.Run.Items.{item_meaning};
+ghost use Rattle.gd_top.specs.Script.LineTaken.{TakesEnd};
+ghost use Rattle.gd_top.specs.Script.Lines.{line_of};
+
+use crate::halt::Halt;
+use crate::item::event::{carry_again, carry_event, next_numbered, show};
+use crate::item::power::{turn_off, turn_on};
+use crate::memory::{Counts, Memory};
+use crate::script::reader::{Ahead, LineBytes, MOST_LINES, next_byte, next_line};
+use gd_base::{Core, Draws, Event, Game, Numbered, Sink, Source, Text, What};
+use gd_disk::LabDisk;
+use gd_script::{Item, read_line};
+
+/// Reads the input to its end, or to what ends the run before, and carries out each line as it comes.
+pub(crate) fn carry_lines<C: Core, S: Source, K: Sink, L: LabDisk, W: Draws>(
+    memory: Memory<C, L, W>,
+    counts: &mut Counts,
+    input: &mut S,
+    output: &mut K,
+    text: &mut Text,
+) -> (Memory<C, L, W>, Result<(), Halt>)
+    requires sits { Sits (moment C.meaning C.view L.state W.block_of K.taken K.faults memory counts.old output.old) }
+    requires none { counts.old.lines ≡ 0 }
+    ensures done { LinesDone result.1 (moment C.meaning C.view L.state W.block_of K.taken K.faults memory counts.old output.old)
+        (moment C.meaning C.view L.state W.block_of K.taken K.faults result.0 counts.new output.new) (S.left input.old) (S.left input.new) }
+    ensures leaves { Leaves result.1 (moment C.meaning C.view L.state W.block_of K.taken K.faults memory counts.old output.old)
+        (moment C.meaning C.view L.state W.block_of K.taken K.faults result.0 counts.new output.new) }
+    ensures lines { counts.new.lines ≤ MOST_LINES }
+    ensures later { S.faults input.old ≤ S.faults input.new }
+    ensures read_fault { result.1 ≡ Err Halt.ReadFault → Rose (S.faults input.old) (S.faults input.new) }
+{
+    let mut memory = memory;
+    let mut ahead = Ahead::new();
+    let mut line = LineBytes::new();
+    for _ in 0..MOST_LINES {
+        match next_line(input, &mut ahead, &mut line) {
+            Ok(true) => {
+                let Some(item) = built_item(line.as_slice()) else {
+                    return (memory, Err(Halt::ScriptFault));
+                };
+                // A comment is passed over here, since the memory is moved for each other item.
+                if is_comment(&item) {
+                    counts.lines += 1;
+                    continue;
+                }
+                let (next, ended) = carry_item(memory, counts, output, text, item);
+                memory = next;
+                if ended.is_err() {
+                    return (memory, ended);
+                }
+                counts.lines += 1;
+            }
+            Ok(false) => return (memory, Ok(())),
+            Err(halt) => return (memory, Err(halt)),
+        }
+    }
+    (memory, expect_end(input, &mut ahead))
+}
+
+/// Where as many lines were carried out as a script may have: a byte more is a script fault.
+fn expect_end<S: Source>(input: &mut S, ahead: &mut Ahead) -> Result<(), Halt>
+    ensures taken { TakesEnd (prepend_known ahead.old (S.left input.old)) (prepend_known ahead.new (S.left input.new)) result }
+    ensures empty { result ≡ Err Halt.ReadFault → ahead.new ≡ [] }
+    ensures later { S.faults input.old ≤ S.faults input.new }
+    ensures cause { result ≡ Err Halt.ReadFault → Rose (S.faults input.old) (S.faults input.new) }
+{
+    match next_byte(input, ahead)? {
+        None => Ok(()),
+        Some(_) => Err(Halt::ScriptFault),
+    }
+}
+
+/// Carries out an item. It is a script fault where it has no place with the power as it is.
+fn carry_item<C: Core, K: Sink, L: LabDisk, W: Draws>(
+    memory: Memory<C, L, W>,
+    counts: &mut Counts,
+    output: &mut K,
+    text: &mut Text,
+    item: Item,
+) -> (Memory<C, L, W>, Result<(), Halt>)
+    requires sits { Sits (moment C.meaning C.view L.state W.block_of K.taken K.faults memory counts.old output.old) }
+    requires grammar { InGrammar item }
+    requires built { is_built item ≡ true }
+    requires no_comment { is_comment item ≡ false }
+    ensures carried { CarriesOut (λ M B. item_meaning M B item) result.1
+        (moment C.meaning C.view L.state W.block_of K.taken K.faults memory counts.old output.old)
+        (moment C.meaning C.view L.state W.block_of K.taken K.faults result.0 counts.new output.new) }
+    ensures leaves { Leaves result.1 (moment C.meaning C.view L.state W.block_of K.taken K.faults memory counts.old output.old)
+        (moment C.meaning C.view L.state W.block_of K.taken K.faults result.0 counts.new output.new) }
+    ensures lines { counts.new.lines ≡ counts.old.lines }
+{
+    match memory {
+        Memory::On(cabinet) => match item {
+            Item::Event(event) => {
+                let e = next_numbered(cabinet.core(), event);
+                carry_event(cabinet, output, text, &e)
+            }
+            Item::As { number, event } => carry_event(
+                cabinet,
+                output,
+                text,
+                &Numbered { number, event },
+            ),
+            Item::Again(device) => carry_again(cabinet, output, text, device),
+            Item::Show(what) => show(cabinet, output, text, what),
+            Item::Off => turn_off(cabinet, output, text),
+            _ => (Memory::On(cabinet), Err(Halt::ScriptFault)),
+        },
+        Memory::Off(parts) => match item {
+            Item::On => turn_on(parts, counts, output, text),
+            _ => (Memory::Off(parts), Err(Halt::ScriptFault)),
+        },
+    }
+}
+
+/// The item that a line says, where it is built.
+fn built_item(line: &[u8]) -> Option<Item>
+    ensures item { result ≡ line_of line.now }
+    ensures grammar { IfSome result InGrammar }
+    ensures built { IfSome result (λ item. is_built item ≡ true) }
+{
+    match read_line(line) {
+        Ok(item) if is_built(&item) => Some(item),
+        _ => None,
+    }
+}
+
+/// Whether an item is built.
+fn is_built(item: &Item) -> bool
+    ensures { result ≡ is_built item.now }
+{
+    match item {
+        Item::Event(event) | Item::As { event, .. } => is_built_event(event),
+        Item::Again(_) | Item::Off | Item::On | Item::Skip => true,
+        Item::Show(What::Meters | What::State) => true,
+        _ => false,
+    }
+}
+
+/// Whether an item is that of a comment or an empty line.
+fn is_comment(item: &Item) -> bool
+    ensures { result ≡ is_comment item.now }
+{
+    matches!(item, Item::Skip)
+}
+
+/// Whether the line of an event is built.
+fn is_built_event(event: &Event) -> bool
+    ensures { result ≡ is_built_event event.now }
+{
+    match event {
+        Event::Bill { .. } | Event::Pick { .. } | Event::Take => true,
+        Event::Play { game, .. } => *game == Game::Reels,
+        _ => false,
+    }
+}
