@@ -2,9 +2,13 @@
 #![tactic(auto)]
 
 #[cfg(test)]
+mod faults;
+#[cfg(test)]
 mod inputs;
 #[cfg(test)]
 mod refusals;
+#[cfg(test)]
+mod repeats;
 #[cfg(test)]
 mod runs;
 #[cfg(test)]

@@ -10,21 +10,21 @@ use std::test::Fail;
 
 /// A trial over a new memory.
 #[derive(Drop)]
-struct Trial<'a> {
+pub(crate) struct Trial<'a> {
     /// The lines of the script.
-    script: &'a [&'a str],
-    status: Status,
+    pub(crate) script: &'a [&'a str],
+    pub(crate) status: Status,
     /// The lines of the report behind those of the opening.
-    report: &'a [&'a str],
+    pub(crate) report: &'a [&'a str],
     /// The count at which both copies are sound. None where the power is off at the end.
-    entries: Option<u64>,
+    pub(crate) entries: Option<u64>,
 }
 
 /// The most bytes of a report.
 const ROOM: usize = 1000;
 
 /// Runs a trial with these draws: its status, its report and what it leaves are as wanted.
-fn expect<W: Draws + Drop>(
+pub(crate) fn expect<W: Draws + Drop>(
     rt: &impl Abort,
     alloc: Global,
     draws: W,
@@ -110,7 +110,7 @@ fn power_cut_at_rest(rt: HostRuntime) -> Result<(), Fail> {
 
 /// A block of zeros, and one by which the reels show three scatters and the prizes 2, 4, 6, 10 and 20 are turned by
 /// two.
-fn three_scatters(alloc: Global) -> Result<ListDraws, Fail> {
+pub(crate) fn three_scatters(alloc: Global) -> Result<ListDraws, Fail> {
     let mut words: Block = [0; 16];
     words[0] = 0x3800_0000_0000_0000;
     words[2] = 0x6800_0000_0000_0000;
