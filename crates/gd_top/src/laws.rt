@@ -15,14 +15,17 @@ ghost use Rattle.gd_top.specs.FirstCore.Histories.{KeepsAllRules};
 /// In every trial and in every run over an image, whatever is found and wherever the power falls, the history is legal
 /// and the view is its view.
 pub fn one_legal_history()
-    ensures trials { (setup : Setup) (blocks : Blocks) → OneLegalHistory (machine_so_far setup) blocks }
-    ensures images { (setup : Setup) (blocks : Blocks) → OneLegalHistoryOverImages (machine_so_far setup) blocks }
+    ensures trials { (setup : Setup) (blocks : Blocks)
+        → OneLegalHistory (machine_so_far setup) blocks }
+    ensures images { (setup : Setup) (blocks : Blocks)
+        → OneLegalHistoryOverImages (machine_so_far setup) blocks }
 {}
 
 /// What was recorded at the end of a line of a trial stays recorded, whatever is found and wherever the power falls, until
 /// a memory is cleared or a view is found that no order of writing explains.
 pub fn nothing_lost()
-    ensures { (setup : Setup) (blocks : Blocks) → NothingLost (machine_so_far setup) blocks }
+    ensures { (setup : Setup) (blocks : Blocks)
+        → NothingLost (machine_so_far setup) blocks }
 {}
 
 /// The view of each legal history from nothing keeps all rules of a view: no money is lost or made, no number is too wide

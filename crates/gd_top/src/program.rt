@@ -43,8 +43,10 @@ fn exit_code(status: Status) -> ExitCode
 
 /// Tells that there is no memory for the parts that `cabinet` is handed. Nothing was made.
 fn give_no_memory<K: Sink>(output: &mut K) -> Status
-    ensures given { GivesLast Status.OutOfMemory result (K.taken output.old) (K.taken output.new) no_memory_text }
-    ensures cause { (result ≡ Status.OutOfMemory) ⊎ Rose (K.faults output.old) (K.faults output.new) }
+    ensures given { GivesLast Status.OutOfMemory result (K.taken output.old)
+        (K.taken output.new) no_memory_text }
+    ensures cause { (result ≡ Status.OutOfMemory)
+        ⊎ Rose (K.faults output.old) (K.faults output.new) }
 {
     match output.give(b"no memory\n") {
         Ok(()) => Status::OutOfMemory,
@@ -86,7 +88,8 @@ fn all_words<R: Env + AllocGlobal>(rt: &R) -> Result<Vec<String>, AllocError> {
 
 /// The same words, lent.
 fn as_texts<'a>(alloc: Global, words: &'a Vec<String>) -> Result<Vec<&'a str>, AllocError>
-    ensures { IfOk result (λ texts. map (λ text. text.now) texts.items ≡ map string_bytes words.now.items) }
+    ensures { IfOk result (λ texts. map (λ text. text.now) texts.items
+        ≡ map string_bytes words.now.items) }
 {
     let mut texts = Vec::with_capacity(alloc, words.len())?;
     for word in words {
@@ -125,12 +128,17 @@ fn carry_out<S: Source, K: Sink>(
         (outer S.left S.faults K.taken K.faults lab_state input.old output.old lab)
         (outer S.left S.faults K.taken K.faults lab_state input.new output.new ended.lab)) }
     ensures script_fault { IfOk result (λ ended. ended.status ≡ Status.ScriptFault → (lab : MemoryLab)
-        × WroteReport (machine_so_far built_in_setup) (seeded_block 1) Status.ScriptFault ended.falls.items
+        × WroteReport (machine_so_far built_in_setup) (seeded_block 1) Status.ScriptFault
+        ended.falls.items
         (outer S.left S.faults K.taken K.faults lab_state input.old output.old lab)
         (outer S.left S.faults K.taken K.faults lab_state input.new output.new ended.lab)) }
-    ensures usage { IfOk result (λ ended. ended.status ≡ Status.Usage → (is_trial (drop 1 all.now) ≡ false) × Appends (K.taken output.old) (K.taken output.new) usage_text) }
-    ensures refused { IfOk result (λ ended. is_trial (drop 1 all.now) ≡ false → (ended.status ≡ Status.Usage) ⊎ (ended.status ≡ Status.WriteFault)) }
-    ensures unmade { IsErr result → (K.taken output.new ≡ K.taken output.old) × (K.faults output.new ≡ K.faults output.old) }
+    ensures usage { IfOk result (λ ended. ended.status ≡ Status.Usage
+        → (is_trial (drop 1 all.now) ≡ false) × Appends (K.taken output.old)
+        (K.taken output.new) usage_text) }
+    ensures refused { IfOk result (λ ended. is_trial (drop 1 all.now) ≡ false
+        → (ended.status ≡ Status.Usage) ⊎ (ended.status ≡ Status.WriteFault)) }
+    ensures unmade { IsErr result
+        → (K.taken output.new ≡ K.taken output.old) × (K.faults output.new ≡ K.faults output.old) }
 {
     let mut setup = MemorySource::of(Vec::new(alloc), None);
     let lab = MemoryLab::new(alloc, DISK_LEN)?;

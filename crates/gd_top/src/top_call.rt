@@ -72,13 +72,17 @@ fn command<S: Source, K: Sink, L: LabDisk, D: Disk, W: Draws>(
     requires is_on { (L.state lab).is_on ≡ true }
     requires armed { (L.state lab).armed ≡ [] }
     requires found { (L.state lab).found ≡ [] }
-    ensures done { CabinetDone (machine_so_far built_in_setup) (W.block_of draws) (is_trial words.now) result.status result.falls.items
+    ensures done { CabinetDone (machine_so_far built_in_setup) (W.block_of draws) (is_trial words.now)
+        result.status result.falls.items
         (outer S.left S.faults K.taken K.faults L.state input.old output.old lab)
         (outer S.left S.faults K.taken K.faults L.state input.new output.new result.lab) }
-    ensures causes { HasCauses result.status (outer S.left S.faults K.taken K.faults L.state input.old output.old lab)
+    ensures causes { HasCauses result.status
+        (outer S.left S.faults K.taken K.faults L.state input.old output.old lab)
         (outer S.left S.faults K.taken K.faults L.state input.new output.new result.lab) }
-    ensures unopened { IsUnopened result.status → (result.lab ≡ lab) × (result.draws ≡ draws) × (input.new ≡ input.old) }
-    ensures refused { is_trial words.now ≡ false → (result.lab ≡ lab) × (result.draws ≡ draws) × (input.new ≡ input.old) }
+    ensures unopened { IsUnopened result.status → (result.lab ≡ lab) × (result.draws ≡ draws)
+        × (input.new ≡ input.old) }
+    ensures refused { is_trial words.now ≡ false → (result.lab ≡ lab) × (result.draws ≡ draws)
+        × (input.new ≡ input.old) }
     ensures no_falls { result.falls.items ≡ [] }
     ensures disk { result.disk ≡ disk }
 {
@@ -134,9 +138,12 @@ pub fn cabinet<S: Source, C: Source, K: Sink, L: LabDisk, D: Disk, W: Draws>(
         (outer S.left S.faults K.taken K.faults L.state input.new output.new result.lab)
         × IsAtEnd (S.left input.new) }
     // 2: exactly where the words aren't `trial`, but for a failing sink. Nothing was read.
-    ensures usage { result.status ≡ Status.Usage → (is_trial words.now ≡ false) × Appends (K.taken output.old) (K.taken output.new) usage_text }
-    ensures refused { is_trial words.now ≡ false → (result.status ≡ Status.Usage) ⊎ (result.status ≡ Status.WriteFault) }
-    ensures unread { is_trial words.now ≡ false → (result.lab ≡ lab) × (result.draws ≡ draws) × (input.new ≡ input.old) }
+    ensures usage { result.status ≡ Status.Usage → (is_trial words.now ≡ false) × Appends
+        (K.taken output.old) (K.taken output.new) usage_text }
+    ensures refused { is_trial words.now ≡ false → (result.status ≡ Status.Usage) ⊎ (result.status
+        ≡ Status.WriteFault) }
+    ensures unread { is_trial words.now ≡ false → (result.lab ≡ lab) × (result.draws ≡ draws)
+        × (input.new ≡ input.old) }
     // 3: the lines whose LF was taken were carried out.
     ensures read_fault { result.status ≡ Status.ReadFault
         → WroteToFault (machine_so_far built_in_setup) (W.block_of draws) result.falls.items
@@ -144,7 +151,8 @@ pub fn cabinet<S: Source, C: Source, K: Sink, L: LabDisk, D: Disk, W: Draws>(
         (outer S.left S.faults K.taken K.faults L.state input.new output.new result.lab) }
     // 4: a front of what is told was written.
     ensures write_fault { result.status ≡ Status.WriteFault
-        → WroteFrontOf (machine_so_far built_in_setup) (W.block_of draws) (is_trial words.now) result.falls.items
+        → WroteFrontOf (machine_so_far built_in_setup) (W.block_of draws) (is_trial words.now)
+        result.falls.items
         (outer S.left S.faults K.taken K.faults L.state input.old output.old lab)
         (outer S.left S.faults K.taken K.faults L.state input.new output.new result.lab) }
     // 5: what is told up to there was written.
@@ -154,19 +162,25 @@ pub fn cabinet<S: Source, C: Source, K: Sink, L: LabDisk, D: Disk, W: Draws>(
         (outer S.left S.faults K.taken K.faults L.state input.new output.new result.lab) }
     // 6: the report of the lines before the first faulty one, and its number.
     ensures script_fault { result.status ≡ Status.ScriptFault
-        → WroteReport (machine_so_far built_in_setup) (W.block_of draws) Status.ScriptFault result.falls.items
+        → WroteReport (machine_so_far built_in_setup) (W.block_of draws) Status.ScriptFault
+        result.falls.items
         (outer S.left S.faults K.taken K.faults L.state input.old output.old lab)
         (outer S.left S.faults K.taken K.faults L.state input.new output.new result.lab) }
     // 9: nothing was made.
-    ensures no_memory { result.status ≡ Status.OutOfMemory → Appends (K.taken output.old) (K.taken output.new) no_memory_text }
-    ensures unopened { IsUnopened result.status → (result.lab ≡ lab) × (result.draws ≡ draws) × (input.new ≡ input.old) }
+    ensures no_memory { result.status ≡ Status.OutOfMemory → Appends (K.taken output.old)
+        (K.taken output.new) no_memory_text }
+    ensures unopened { IsUnopened result.status → (result.lab ≡ lab) × (result.draws ≡ draws)
+        × (input.new ≡ input.old) }
     // 3, 4 and 5 come only where a count of what failed rose.
-    ensures causes { HasCauses result.status (outer S.left S.faults K.taken K.faults L.state input.old output.old lab)
+    ensures causes { HasCauses result.status
+        (outer S.left S.faults K.taken K.faults L.state input.old output.old lab)
         (outer S.left S.faults K.taken K.faults L.state input.new output.new result.lab) }
     // Where no such count rose, it ends as the definition says, or for want of memory.
-    ensures exact { is_trial words.now ≡ true → (Rose (S.faults input.old) (S.faults input.new) → ⊥) → (Rose (K.faults output.old) (K.faults output.new) → ⊥)
+    ensures exact { is_trial words.now ≡ true → (Rose (S.faults input.old) (S.faults input.new) → ⊥)
+        → (Rose (K.faults output.old) (K.faults output.new) → ⊥)
         → (Rose (L.state lab).faults (L.state result.lab).faults → ⊥)
-        → EndsAsTold (machine_so_far built_in_setup) (W.block_of draws) result.status result.falls.items
+        → EndsAsTold (machine_so_far built_in_setup) (W.block_of draws) result.status
+        result.falls.items
         (outer S.left S.faults K.taken K.faults L.state input.old output.old lab)
         (outer S.left S.faults K.taken K.faults L.state input.new output.new result.lab) }
     ensures built { IsBuilt result.status }

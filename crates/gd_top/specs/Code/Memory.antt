@@ -32,9 +32,9 @@ pub record Moment (V : Type 0) : Type 1 where
   pub faults : ℕ  -- of the sink
 
 -- open, with the power on
-abbrev pub moment_open : {V C D W K : Type 0} {g h i : _} → (C → Machine V) → (C → V) → (D → DiskState) → (W → Blocks) → (K → Option (List ℕ)) → (K → ℕ)
+abbrev pub moment_on : {V C D W K : Type 0} {g h i : _} → (C → Machine V) → (C → V) → (D → DiskState) → (W → Blocks) → (K → Option (List ℕ)) → (K → ℕ)
     → Cabinet C D W g h i → Counts → K → Moment V
-moment_open meaning view state blocks taken faults cabinet counts sink = record {
+moment_on meaning view state blocks taken faults cabinet counts sink = record {
   machine = meaning (cabinet_core cabinet);
   blocks = blocks (cabinet_draws cabinet);
   view = view (cabinet_core cabinet);
@@ -48,9 +48,9 @@ moment_open meaning view state blocks taken faults cabinet counts sink = record 
 }
 
 -- closed, with the power off
-abbrev pub moment_closed : {V C D W K : Type 0} → (C → Machine V) → (C → V) → (D → DiskState) → (W → Blocks) → (K → Option (List ℕ)) → (K → ℕ)
+abbrev pub moment_off : {V C D W K : Type 0} → (C → Machine V) → (C → V) → (D → DiskState) → (W → Blocks) → (K → Option (List ℕ)) → (K → ℕ)
     → Parts C D W → Counts → K → Moment V
-moment_closed meaning view state blocks taken faults parts counts sink = record {
+moment_off meaning view state blocks taken faults parts counts sink = record {
   machine = meaning parts.core;
   blocks = blocks parts.draws;
   view = view parts.core;

@@ -6,7 +6,7 @@ ghost use Rattle.gd_base.specs.Outside.Causes.{Rose};
 ghost use Rattle.gd_top.specs.Claims.MemoryLeft.{IsAtRest, IsSettled};
 ghost use Rattle.gd_top.specs.Claims.Trial.{outer, status_after, last_text, GivesLast, HasCauses, TrialDone};
 ghost use Rattle.gd_top.specs.Code.LinesDone.{RunDone};
-ghost use Rattle.gd_top.specs.Code.Memory.{memory_core, memory_disk, memory_draws, memory_phase, memory_stopped, moment, moment_closed, Leaves};
+ghost use Rattle.gd_top.specs.Code.Memory.{memory_core, memory_disk, memory_draws, memory_phase, memory_stopped, moment, moment_off, Leaves};
 ghost use Rattle.gd_top.specs.FirstCore.View.{core_view};
 ghost use Rattle.gd_top.specs.Run.Life.{end_line, end_status};
 ghost use Rattle.gd_top.specs.Run.State.{Phase, Off};
@@ -46,7 +46,8 @@ pub(crate) fn run_trial<S: Source, K: Sink, L: LabDisk, W: Draws>(
     requires is_on { (L.state parts.disk).is_on ≡ true }
     requires armed { (L.state parts.disk).armed ≡ [] }
     requires found { (L.state parts.disk).found ≡ [] }
-    ensures done { TrialDone (machine_so_far parts.core.setup) (W.block_of parts.draws) result.status result.falls.items
+    ensures done { TrialDone (machine_so_far parts.core.setup) (W.block_of parts.draws) result.status
+        result.falls.items
         (outer S.left S.faults K.taken K.faults L.state input.old output.old parts.disk)
         (outer S.left S.faults K.taken K.faults L.state input.new output.new result.lab) }
     ensures causes { HasCauses result.status
@@ -84,13 +85,17 @@ fn carry_script<C: Core, S: Source, K: Sink, L: LabDisk, W: Draws>(
     requires armed { (L.state parts.disk).armed ≡ [] }
     requires found { (L.state parts.disk).found ≡ [] }
     requires counts { counts.old ≡ record { lines = 0; power_ons = 0 } }
-    ensures done { RunDone result.1 (moment_closed C.meaning C.view L.state W.block_of K.taken K.faults parts counts.old output.old)
-        (moment C.meaning C.view L.state W.block_of K.taken K.faults result.0 counts.new output.new) (S.left input.old) (S.left input.new) }
-    ensures leaves { Leaves result.1 (moment_closed C.meaning C.view L.state W.block_of K.taken K.faults parts counts.old output.old)
+    ensures done { RunDone result.1
+        (moment_off C.meaning C.view L.state W.block_of K.taken K.faults parts counts.old output.old)
+        (moment C.meaning C.view L.state W.block_of K.taken K.faults result.0 counts.new output.new)
+        (S.left input.old) (S.left input.new) }
+    ensures leaves { Leaves result.1
+        (moment_off C.meaning C.view L.state W.block_of K.taken K.faults parts counts.old output.old)
         (moment C.meaning C.view L.state W.block_of K.taken K.faults result.0 counts.new output.new) }
     ensures lines { counts.new.lines ≤ MOST_LINES }
     ensures later { S.faults input.old ≤ S.faults input.new }
-    ensures read_fault { result.1 ≡ Err Halt.ReadFault → Rose (S.faults input.old) (S.faults input.new) }
+    ensures read_fault { result.1 ≡ Err Halt.ReadFault
+        → Rose (S.faults input.old) (S.faults input.new) }
 {
     match make_memory(parts) {
         Ok(made) => {
@@ -113,8 +118,10 @@ fn end_report<K: Sink, L: LabDisk, W: Draws>(
     text: &mut Text,
 ) -> Status
     requires { lines ≤ MOST_LINES }
-    ensures last { GivesLast (status_after ended (memory_phase memory.now)) result (K.taken output.old) (K.taken output.new)
-        (last_text (machine_so_far (memory_core memory.now).setup) ended (memory_phase memory.now) (core_view (memory_core memory.now)) lines) }
+    ensures last { GivesLast (status_after ended (memory_phase memory.now)) result (K.taken output.old)
+        (K.taken output.new)
+        (last_text (machine_so_far (memory_core memory.now).setup) ended (memory_phase memory.now)
+        (core_view (memory_core memory.now)) lines) }
     ensures later { K.faults output.old ≤ K.faults output.new }
     ensures cause { (result ≡ status_after ended (memory_phase memory.now))
         ⊎ ((result ≡ Status.WriteFault) × Rose (K.faults output.old) (K.faults output.new)) }
@@ -134,7 +141,9 @@ fn write_last<L: LabDisk, W: Draws>(
     ended: Result<(), Halt>,
 )
     requires { lines ≤ MOST_LINES }
-    ensures { text.new.bytes ≡ last_text (machine_so_far (memory_core memory.now).setup) ended (memory_phase memory.now) (core_view (memory_core memory.now)) lines }
+    ensures { text.new.bytes ≡ last_text
+        (machine_so_far (memory_core memory.now).setup) ended (memory_phase memory.now)
+        (core_view (memory_core memory.now)) lines }
 {
     text.clear();
     match ended {
@@ -162,7 +171,9 @@ fn status_after(ended: Result<(), Halt>) -> Status
 /// Appends the last line of a report whose input was read to its end.
 fn push_end<L: LabDisk, W: Draws>(text: &mut Text, memory: &Memory<FirstCore, L, W>)
     requires { text.old.bytes ≡ [] }
-    ensures { text.new.bytes ≡ end_line (machine_so_far (memory_core memory.now).setup) (memory_phase memory.now) (core_view (memory_core memory.now)) }
+    ensures { text.new.bytes ≡ end_line
+        (machine_so_far (memory_core memory.now).setup) (memory_phase memory.now)
+        (core_view (memory_core memory.now)) }
 {
     match memory {
         Memory::On(cabinet) => {
@@ -177,7 +188,8 @@ fn push_end<L: LabDisk, W: Draws>(text: &mut Text, memory: &Memory<FirstCore, L,
 fn close<C: Core, L: LabDisk, W: Draws>(memory: Memory<C, L, W>) -> Parts<C, L, W>
     ensures disk { result.disk ≡ memory_disk memory }
     ensures draws { result.draws ≡ memory_draws memory }
-    ensures at_rest { memory_stopped memory ≡ false → (memory_phase memory ≡ Off → IsSettled (L.state (memory_disk memory)))
+    ensures at_rest { memory_stopped memory ≡ false → (memory_phase memory ≡ Off
+        → IsSettled (L.state (memory_disk memory)))
         → IsAtRest (memory_phase memory) (L.state result.disk) }
 {
     match memory {

@@ -5,7 +5,7 @@ ghost use Rattle.gd_base.specs.declared.step.Stepped.{Stepped as SteppedData};
 ghost use Rattle.gd_base.specs.Histories.Entry.{device_of};
 ghost use Rattle.gd_cabinet.specs.Answers.{cabinet_answer};
 ghost use Rattle.gd_script.specs.declared.item.Item.{Item};
-ghost use Rattle.gd_top.specs.Code.Memory.{moment, moment_open, CarriesOut, Leaves, Sits};
+ghost use Rattle.gd_top.specs.Code.Memory.{moment, moment_on, CarriesOut, Leaves, Sits};
 ghost use Rattle.gd_top.specs.Report.AnswerText.{answer_text};
 ghost use Rattle.gd_top.specs.Run.Items.{event_meaning, item_meaning};
 ghost use Rattle.gd_top.specs.Script.Built.{next_of};
@@ -29,12 +29,13 @@ pub(crate) fn carry_event<C: Core, K: Sink, L: LabDisk, W: Draws>(
     e: &Numbered,
 ) -> (Memory<C, L, W>, Result<(), Halt>)
     requires not_start { e.now.event ≢ Event.Start }
-    requires sits { (k : Counts) → Sits (moment_open C.meaning C.view L.state W.block_of K.taken K.faults cabinet k output.old) }
+    requires sits { (k : Counts) → Sits
+        (moment_on C.meaning C.view L.state W.block_of K.taken K.faults cabinet k output.old) }
     ensures carried { (k : Counts) → CarriesOut (λ M B. event_meaning M B e.now) result.1
-        (moment_open C.meaning C.view L.state W.block_of K.taken K.faults cabinet k output.old)
+        (moment_on C.meaning C.view L.state W.block_of K.taken K.faults cabinet k output.old)
         (moment C.meaning C.view L.state W.block_of K.taken K.faults result.0 k output.new) }
     ensures leaves { (k : Counts) → Leaves result.1
-        (moment_open C.meaning C.view L.state W.block_of K.taken K.faults cabinet k output.old)
+        (moment_on C.meaning C.view L.state W.block_of K.taken K.faults cabinet k output.old)
         (moment C.meaning C.view L.state W.block_of K.taken K.faults result.0 k output.new) }
 {
     match cabinet.submit(e) {
@@ -49,7 +50,8 @@ pub(crate) fn carry_event<C: Core, K: Sink, L: LabDisk, W: Draws>(
 
 /// Writes the line of an answer over what stands in `text`.
 fn write_answer(text: &mut Text, e: &Numbered, answer: &Answer)
-    ensures { (stepped : SteppedData) (count : ℕ) → answer.now ≡ cabinet_answer stepped count → text.new.bytes ≡ answer_text e.now stepped count }
+    ensures { (stepped : SteppedData) (count : ℕ) → answer.now ≡ cabinet_answer stepped count
+        → text.new.bytes ≡ answer_text e.now stepped count }
 {
     text.clear();
     match answer {
@@ -84,12 +86,13 @@ pub(crate) fn carry_again<C: Core, K: Sink, L: LabDisk, W: Draws>(
     device: Device,
 ) -> (Memory<C, L, W>, Result<(), Halt>)
     requires not_power { device ≢ Device.Power }
-    requires sits { (k : Counts) → Sits (moment_open C.meaning C.view L.state W.block_of K.taken K.faults cabinet k output.old) }
+    requires sits { (k : Counts) → Sits
+        (moment_on C.meaning C.view L.state W.block_of K.taken K.faults cabinet k output.old) }
     ensures carried { (k : Counts) → CarriesOut (λ M B. item_meaning M B (Item.Again device)) result.1
-        (moment_open C.meaning C.view L.state W.block_of K.taken K.faults cabinet k output.old)
+        (moment_on C.meaning C.view L.state W.block_of K.taken K.faults cabinet k output.old)
         (moment C.meaning C.view L.state W.block_of K.taken K.faults result.0 k output.new) }
     ensures leaves { (k : Counts) → Leaves result.1
-        (moment_open C.meaning C.view L.state W.block_of K.taken K.faults cabinet k output.old)
+        (moment_on C.meaning C.view L.state W.block_of K.taken K.faults cabinet k output.old)
         (moment C.meaning C.view L.state W.block_of K.taken K.faults result.0 k output.new) }
 {
     let number = cabinet.core().last(device);
@@ -136,12 +139,13 @@ pub(crate) fn show<C: Core, K: Sink, L: LabDisk, W: Draws>(
     text: &mut Text,
     what: What,
 ) -> (Memory<C, L, W>, Result<(), Halt>)
-    requires sits { (k : Counts) → Sits (moment_open C.meaning C.view L.state W.block_of K.taken K.faults cabinet k output.old) }
+    requires sits { (k : Counts) → Sits
+        (moment_on C.meaning C.view L.state W.block_of K.taken K.faults cabinet k output.old) }
     ensures carried { (k : Counts) → CarriesOut (λ M B. item_meaning M B (Item.Show what)) result.1
-        (moment_open C.meaning C.view L.state W.block_of K.taken K.faults cabinet k output.old)
+        (moment_on C.meaning C.view L.state W.block_of K.taken K.faults cabinet k output.old)
         (moment C.meaning C.view L.state W.block_of K.taken K.faults result.0 k output.new) }
     ensures leaves { (k : Counts) → Leaves result.1
-        (moment_open C.meaning C.view L.state W.block_of K.taken K.faults cabinet k output.old)
+        (moment_on C.meaning C.view L.state W.block_of K.taken K.faults cabinet k output.old)
         (moment C.meaning C.view L.state W.block_of K.taken K.faults result.0 k output.new) }
 {
     cabinet.core().show(what, text);

@@ -5,7 +5,7 @@ ghost use Rattle.gd_base.specs.Judging.Answer.{is_full};
 ghost use Rattle.gd_base.specs.Outside.Causes.{Rose};
 ghost use Rattle.gd_script.specs.declared.item.Item.{Item};
 ghost use Rattle.gd_store.specs.Repair.{repair_needed};
-ghost use Rattle.gd_top.specs.Code.Memory.{moment, moment_closed, moment_open, CarriesOut, Leaves, Sits};
+ghost use Rattle.gd_top.specs.Code.Memory.{moment, moment_off, moment_on, CarriesOut, Leaves, Sits};
 ghost use Rattle.gd_top.specs.Code.Parts.{GivesBroken};
 ghost use Rattle.gd_top.specs.Report.Lines.{power_line, start_text};
 ghost use Rattle.gd_top.specs.Run.Items.{item_meaning};
@@ -28,12 +28,13 @@ pub(crate) fn turn_on<C: Core, K: Sink, L: LabDisk, W: Draws>(
     output: &mut K,
     text: &mut Text,
 ) -> (Memory<C, L, W>, Result<(), Halt>)
-    requires sits { Sits (moment_closed C.meaning C.view L.state W.block_of K.taken K.faults parts counts.old output.old) }
+    requires sits { Sits
+        (moment_off C.meaning C.view L.state W.block_of K.taken K.faults parts counts.old output.old) }
     ensures carried { CarriesOut (λ M B. item_meaning M B Item.On) result.1
-        (moment_closed C.meaning C.view L.state W.block_of K.taken K.faults parts counts.old output.old)
+        (moment_off C.meaning C.view L.state W.block_of K.taken K.faults parts counts.old output.old)
         (moment C.meaning C.view L.state W.block_of K.taken K.faults result.0 counts.new output.new) }
     ensures leaves { Leaves result.1
-        (moment_closed C.meaning C.view L.state W.block_of K.taken K.faults parts counts.old output.old)
+        (moment_off C.meaning C.view L.state W.block_of K.taken K.faults parts counts.old output.old)
         (moment C.meaning C.view L.state W.block_of K.taken K.faults result.0 counts.new output.new) }
     ensures lines { counts.new.lines ≡ counts.old.lines }
 {
@@ -52,13 +53,14 @@ pub(crate) fn open_memory<C: Core, K: Sink, L: LabDisk, W: Draws>(
     output: &mut K,
     text: &mut Text,
 ) -> (Memory<C, L, W>, Result<(), Halt>)
-    requires sits { Sits (moment_closed C.meaning C.view L.state W.block_of K.taken K.faults parts counts.old output.old) }
+    requires sits { Sits
+        (moment_off C.meaning C.view L.state W.block_of K.taken K.faults parts counts.old output.old) }
     requires few { counts.old.power_ons < MOST_POWER_ONS }
     ensures carried { CarriesOut (λ M B. power_on M B Nothing Done) result.1
-        (moment_closed C.meaning C.view L.state W.block_of K.taken K.faults parts counts.old output.old)
+        (moment_off C.meaning C.view L.state W.block_of K.taken K.faults parts counts.old output.old)
         (moment C.meaning C.view L.state W.block_of K.taken K.faults result.0 counts.new output.new) }
     ensures leaves { Leaves result.1
-        (moment_closed C.meaning C.view L.state W.block_of K.taken K.faults parts counts.old output.old)
+        (moment_off C.meaning C.view L.state W.block_of K.taken K.faults parts counts.old output.old)
         (moment C.meaning C.view L.state W.block_of K.taken K.faults result.0 counts.new output.new) }
     ensures lines { counts.new.lines ≡ counts.old.lines }
     ensures no_stop { result.1 ≡ Err Halt.ScriptFault → ⊥ }
@@ -95,7 +97,8 @@ fn is_full<C: Core>(core: &C) -> bool
 /// Writes the line of power-on `number` and of its start over what stands in `text`. There is no start where the history
 /// was full.
 fn write_opening(text: &mut Text, number: u64, found: &Found, was_full: bool, count: u64)
-    ensures { text.new.bytes ≡ power_line number found.now ++ start_text was_full count (repair_needed found.now) }
+    ensures { text.new.bytes
+        ≡ power_line number found.now ++ start_text was_full count (repair_needed found.now) }
 {
     text.clear();
     push_power_line(text, number, found);
@@ -126,12 +129,13 @@ pub(crate) fn turn_off<C: Core, K: Sink, L: LabDisk, W: Draws>(
     output: &mut K,
     text: &mut Text,
 ) -> (Memory<C, L, W>, Result<(), Halt>)
-    requires sits { (k : CountsData) → Sits (moment_open C.meaning C.view L.state W.block_of K.taken K.faults cabinet k output.old) }
+    requires sits { (k : CountsData) → Sits
+        (moment_on C.meaning C.view L.state W.block_of K.taken K.faults cabinet k output.old) }
     ensures carried { (k : CountsData) → CarriesOut (λ M B. item_meaning M B Item.Off) result.1
-        (moment_open C.meaning C.view L.state W.block_of K.taken K.faults cabinet k output.old)
+        (moment_on C.meaning C.view L.state W.block_of K.taken K.faults cabinet k output.old)
         (moment C.meaning C.view L.state W.block_of K.taken K.faults result.0 k output.new) }
     ensures leaves { (k : CountsData) → Leaves result.1
-        (moment_open C.meaning C.view L.state W.block_of K.taken K.faults cabinet k output.old)
+        (moment_on C.meaning C.view L.state W.block_of K.taken K.faults cabinet k output.old)
         (moment C.meaning C.view L.state W.block_of K.taken K.faults result.0 k output.new) }
 {
     let mut parts = cabinet.close();

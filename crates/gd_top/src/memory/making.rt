@@ -19,10 +19,13 @@ pub(crate) fn make_memory<C: Core, L: LabDisk, W: Draws>(
     requires size { (L.state parts.disk).size ≡ DISK_LEN }
     requires is_on { (L.state parts.disk).is_on ≡ true }
     requires armed { (L.state parts.disk).armed ≡ [] }
-    ensures made { IfOk result (λ made. IsMade (C.meaning parts.core) (C.view parts.core) (L.state parts.disk) (L.state made.disk)) }
+    ensures made { IfOk result
+        (λ made. IsMade (C.meaning parts.core) (C.view parts.core) (L.state parts.disk)
+        (L.state made.disk)) }
     ensures core { IfOk result (λ made. made.core ≡ parts.core) }
     ensures draws { IfOk result (λ made. made.draws ≡ parts.draws) }
-    ensures fault { IfErr result (λ left. Rose (L.state parts.disk).faults (L.state left.disk).faults) }
+    ensures fault { IfErr result
+        (λ left. Rose (L.state parts.disk).faults (L.state left.disk).faults) }
     ensures few { IfErr result (λ left. (L.state left.disk).syncs < (L.state parts.disk).syncs + 5) }
     ensures none { IfErr result (λ left. (L.state left.disk).found ≡ (L.state parts.disk).found) }
     ensures stays_armed { IfErr result (λ left. (L.state left.disk).armed ≡ []) }

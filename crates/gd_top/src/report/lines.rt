@@ -97,7 +97,9 @@ pub(crate) fn push_answer_line(
     n: u64,
 )
     requires { array_string_len text.old + 102 ≤ TEXT_LEN }
-    ensures bytes { text.new.bytes ≡ text.old.bytes ++ answer_line (if is_again then codes "again" else codes "ack") device number reply n }
+    ensures bytes { text.new.bytes
+        ≡ text.old.bytes ++ answer_line
+        (if is_again then codes "again" else codes "ack") device number reply n }
     ensures room { array_string_len text.new ≤ array_string_len text.old + 102 }
 {
     text.push_str(if is_again { "again" } else { "ack" });
@@ -151,7 +153,9 @@ pub(crate) fn push_none_line(text: &mut Text, device: Device)
 /// bytes.
 pub(crate) fn push_end_line(text: &mut Text, n: u64, credit: u64)
     requires { array_string_len text.old + 56 ≤ TEXT_LEN }
-    ensures bytes { text.new.bytes ≡ text.old.bytes ++ (codes "end at " ++ decimal n ++ codes " credit " ++ decimal credit ++ codes "\n") }
+    ensures bytes { text.new.bytes
+        ≡ text.old.bytes ++
+        (codes "end at " ++ decimal n ++ codes " credit " ++ decimal credit ++ codes "\n") }
     ensures room { array_string_len text.new ≤ array_string_len text.old + 56 }
 {
     text.push_str("end at ");

@@ -28,15 +28,20 @@ pub(crate) fn carry_lines<C: Core, S: Source, K: Sink, L: LabDisk, W: Draws>(
     output: &mut K,
     text: &mut Text,
 ) -> (Memory<C, L, W>, Result<(), Halt>)
-    requires sits { Sits (moment C.meaning C.view L.state W.block_of K.taken K.faults memory counts.old output.old) }
+    requires sits { Sits
+        (moment C.meaning C.view L.state W.block_of K.taken K.faults memory counts.old output.old) }
     requires none { counts.old.lines ≡ 0 }
-    ensures done { LinesDone result.1 (moment C.meaning C.view L.state W.block_of K.taken K.faults memory counts.old output.old)
-        (moment C.meaning C.view L.state W.block_of K.taken K.faults result.0 counts.new output.new) (S.left input.old) (S.left input.new) }
-    ensures leaves { Leaves result.1 (moment C.meaning C.view L.state W.block_of K.taken K.faults memory counts.old output.old)
+    ensures done { LinesDone result.1
+        (moment C.meaning C.view L.state W.block_of K.taken K.faults memory counts.old output.old)
+        (moment C.meaning C.view L.state W.block_of K.taken K.faults result.0 counts.new output.new)
+        (S.left input.old) (S.left input.new) }
+    ensures leaves { Leaves result.1
+        (moment C.meaning C.view L.state W.block_of K.taken K.faults memory counts.old output.old)
         (moment C.meaning C.view L.state W.block_of K.taken K.faults result.0 counts.new output.new) }
     ensures lines { counts.new.lines ≤ MOST_LINES }
     ensures later { S.faults input.old ≤ S.faults input.new }
-    ensures read_fault { result.1 ≡ Err Halt.ReadFault → Rose (S.faults input.old) (S.faults input.new) }
+    ensures read_fault { result.1 ≡ Err Halt.ReadFault
+        → Rose (S.faults input.old) (S.faults input.new) }
 {
     let mut memory = memory;
     let mut ahead = Ahead::new();
@@ -68,7 +73,8 @@ pub(crate) fn carry_lines<C: Core, S: Source, K: Sink, L: LabDisk, W: Draws>(
 
 /// Where as many lines were carried out as a script may have: a byte more is a script fault.
 fn expect_end<S: Source>(input: &mut S, ahead: &mut Ahead) -> Result<(), Halt>
-    ensures taken { TakesEnd (prepend_known ahead.old (S.left input.old)) (prepend_known ahead.new (S.left input.new)) result }
+    ensures taken { TakesEnd (prepend_known ahead.old (S.left input.old)) (prepend_known ahead.new
+        (S.left input.new)) result }
     ensures empty { result ≡ Err Halt.ReadFault → ahead.new ≡ [] }
     ensures later { S.faults input.old ≤ S.faults input.new }
     ensures cause { result ≡ Err Halt.ReadFault → Rose (S.faults input.old) (S.faults input.new) }
@@ -87,14 +93,16 @@ fn carry_item<C: Core, K: Sink, L: LabDisk, W: Draws>(
     text: &mut Text,
     item: Item,
 ) -> (Memory<C, L, W>, Result<(), Halt>)
-    requires sits { Sits (moment C.meaning C.view L.state W.block_of K.taken K.faults memory counts.old output.old) }
+    requires sits { Sits
+        (moment C.meaning C.view L.state W.block_of K.taken K.faults memory counts.old output.old) }
     requires grammar { InGrammar item }
     requires built { is_built item ≡ true }
     requires no_comment { is_comment item ≡ false }
     ensures carried { CarriesOut (λ M B. item_meaning M B item) result.1
         (moment C.meaning C.view L.state W.block_of K.taken K.faults memory counts.old output.old)
         (moment C.meaning C.view L.state W.block_of K.taken K.faults result.0 counts.new output.new) }
-    ensures leaves { Leaves result.1 (moment C.meaning C.view L.state W.block_of K.taken K.faults memory counts.old output.old)
+    ensures leaves { Leaves result.1
+        (moment C.meaning C.view L.state W.block_of K.taken K.faults memory counts.old output.old)
         (moment C.meaning C.view L.state W.block_of K.taken K.faults result.0 counts.new output.new) }
     ensures lines { counts.new.lines ≡ counts.old.lines }
 {

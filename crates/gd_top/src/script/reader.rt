@@ -83,8 +83,10 @@ impl Ahead {
 
 /// Takes the next byte, or none at the end of the input.
 pub(crate) fn next_byte<S: Source>(source: &mut S, ahead: &mut Ahead) -> Result<Option<u8>, Halt>
-    ensures taken { TakesByte (prepend_known ahead.old (S.left source.old)) (prepend_known ahead.new (S.left source.new)) result }
-    ensures end { IfOk result (λ b. IfNone b (IsAtEnd (prepend_known ahead.new (S.left source.new)))) }
+    ensures taken { TakesByte (prepend_known ahead.old (S.left source.old))
+        (prepend_known ahead.new (S.left source.new)) result }
+    ensures end { IfOk result
+        (λ b. IfNone b (IsAtEnd (prepend_known ahead.new (S.left source.new)))) }
     ensures empty { OnErr result (ahead.new ≡ []) }
     ensures cause { HasCause (S.faults source.old) (S.faults source.new) result }
 {
@@ -105,8 +107,8 @@ pub(crate) fn next_line<S: Source>(
     ahead: &mut Ahead,
     line: &mut LineBytes,
 ) -> Result<bool, Halt>
-    ensures taken { TakesLine (prepend_known ahead.old (S.left source.old)) (prepend_known ahead.new (S.left source.new))
-        line.new.items result }
+    ensures taken { TakesLine (prepend_known ahead.old (S.left source.old))
+        (prepend_known ahead.new (S.left source.new)) line.new.items result }
     ensures no_end { HasNoEnd line.new.items }
     ensures short { length line.new.items ≤ LINE_LEN }
     // At a fault of the source nothing waits: all that was taken is in the lines before and in this one.

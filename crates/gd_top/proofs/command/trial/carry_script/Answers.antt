@@ -1,6 +1,6 @@
 use Rattle.std.proofs.Common.{◌≡◌, ◌∙◌, ap, sym, subst, refl, ℕ, [], Result}
 use Rattle.gd_top.specs.Code.LinesDone.{made_outside}
-use Rattle.gd_top.specs.Code.Memory.{Fits, Leaves, moment, moment_closed, outside}
+use Rattle.gd_top.specs.Code.Memory.{Fits, Leaves, moment, moment_off, outside}
 use Rattle.gd_top.specs.Code.Standing.{first_standing}
 use Rattle.gd_top.proofs.LineLemmas.Steps.{leaves_then, went_on}
 use Rattle.gd_top.proofs.TrialLemmas.FromMaking.{run_ends, run_goes, made_leaves}
@@ -10,8 +10,8 @@ pub returns-then-is_err-clause-done : goal.returns-then-is_err-clause-done
 returns-then-is_err-clause-done g c =
     let parts = c.args.parts in
     let kept = c.in-Ok.made in
-    let was = moment_closed g.C.Core.meaning g.C.Core.view g.L.Disk.state g.W.Draws.block_of g.K.Sink.taken g.K.Sink.faults parts c.args.counts.now c.args.output.now in
-    let made = moment_closed g.C.Core.meaning g.C.Core.view g.L.Disk.state g.W.Draws.block_of g.K.Sink.taken g.K.Sink.faults kept c.args.counts.now c.args.output.now in
+    let was = moment_off g.C.Core.meaning g.C.Core.view g.L.Disk.state g.W.Draws.block_of g.K.Sink.taken g.K.Sink.faults parts c.args.counts.now c.args.output.now in
+    let made = moment_off g.C.Core.meaning g.C.Core.view g.L.Disk.state g.W.Draws.block_of g.K.Sink.taken g.K.Sink.faults kept c.args.counts.now c.args.output.now in
     let machine = ap g.C.Core.meaning c.in-Ok.ensures.core in
     let blocks = λ (lap index : ℕ). ap (λ w. g.W.Draws.block_of w lap index) c.in-Ok.ensures.draws in
     let h = c.in-Ok.ensures.made in
@@ -34,8 +34,8 @@ pub returns-else-is_err-clause-done : goal.returns-else-is_err-clause-done
 returns-else-is_err-clause-done g c =
     let parts = c.args.parts in
     let kept = c.in-Ok.made in
-    let was = moment_closed g.C.Core.meaning g.C.Core.view g.L.Disk.state g.W.Draws.block_of g.K.Sink.taken g.K.Sink.faults parts c.args.counts.now c.args.output.now in
-    let made = moment_closed g.C.Core.meaning g.C.Core.view g.L.Disk.state g.W.Draws.block_of g.K.Sink.taken g.K.Sink.faults kept c.args.counts.now c.args.output.now in
+    let was = moment_off g.C.Core.meaning g.C.Core.view g.L.Disk.state g.W.Draws.block_of g.K.Sink.taken g.K.Sink.faults parts c.args.counts.now c.args.output.now in
+    let made = moment_off g.C.Core.meaning g.C.Core.view g.L.Disk.state g.W.Draws.block_of g.K.Sink.taken g.K.Sink.faults kept c.args.counts.now c.args.output.now in
     let machine = ap g.C.Core.meaning c.in-Ok.ensures.core in
     let blocks = λ (lap index : ℕ). ap (λ w. g.W.Draws.block_of w lap index) c.in-Ok.ensures.draws in
     let h = c.in-Ok.ensures.made in
@@ -59,8 +59,8 @@ pub returns-else-is_err-clause-leaves : goal.returns-else-is_err-clause-leaves
 returns-else-is_err-clause-leaves g c =
     let parts = c.args.parts in
     let kept = c.in-Ok.made in
-    let was = moment_closed g.C.Core.meaning g.C.Core.view g.L.Disk.state g.W.Draws.block_of g.K.Sink.taken g.K.Sink.faults parts c.args.counts.now c.args.output.now in
-    let made = moment_closed g.C.Core.meaning g.C.Core.view g.L.Disk.state g.W.Draws.block_of g.K.Sink.taken g.K.Sink.faults kept c.args.counts.now c.args.output.now in
+    let was = moment_off g.C.Core.meaning g.C.Core.view g.L.Disk.state g.W.Draws.block_of g.K.Sink.taken g.K.Sink.faults parts c.args.counts.now c.args.output.now in
+    let made = moment_off g.C.Core.meaning g.C.Core.view g.L.Disk.state g.W.Draws.block_of g.K.Sink.taken g.K.Sink.faults kept c.args.counts.now c.args.output.now in
     let machine = ap g.C.Core.meaning c.in-Ok.ensures.core in
     let blocks = λ (lap index : ℕ). ap (λ w. g.W.Draws.block_of w lap index) c.in-Ok.ensures.draws in
     let h = c.in-Ok.ensures.made in

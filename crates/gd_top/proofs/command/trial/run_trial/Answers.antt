@@ -2,7 +2,7 @@ use Rattle.std.proofs.Common.{sym, subst, ℕ, List, []}
 use Rattle.gd_base.specs.Judging.SoFar.{machine_so_far}
 use Rattle.gd_top.specs.Claims.MemoryLeft.{IsAtRest}
 use Rattle.gd_top.specs.Claims.Trial.{outer, HasCauses, TrialDone}
-use Rattle.gd_top.specs.Code.Memory.{memory_disk, memory_phase, moment, moment_closed}
+use Rattle.gd_top.specs.Code.Memory.{memory_disk, memory_phase, moment, moment_off}
 use Rattle.gd_top.specs.FirstCore.View.{core_view}
 use Rattle.gd_top.specs.declared.first_core.FirstCore.{FirstCore}
 use Rattle.gd_top.proofs.TrialLemmas.Ends.{causes, memory_ends}
@@ -15,7 +15,7 @@ returns-clause-done g c =
     let memory = ran.result.0 in
     let status = c.end_report-status.result in
     let meaning = λ (core : FirstCore). machine_so_far core.setup in
-    let was = moment_closed meaning core_view g.L.Disk.state g.W.Draws.block_of g.K.Sink.taken g.K.Sink.faults c.args.parts (record { lines = 0; power_ons = 0 }) c.args.output.now in
+    let was = moment_off meaning core_view g.L.Disk.state g.W.Draws.block_of g.K.Sink.taken g.K.Sink.faults c.args.parts (record { lines = 0; power_ons = 0 }) c.args.output.now in
     let now = moment meaning core_view g.L.Disk.state g.W.Draws.block_of g.K.Sink.taken g.K.Sink.faults memory ran.new.counts ran.new.output in
     let M = machine_so_far c.args.parts.core.setup in
     let B = g.W.Draws.block_of c.args.parts.draws in

@@ -2,7 +2,7 @@ use Rattle.std.proofs.Common.{◌≡◌, ◌∙◌, ap, sym, subst, refl, ℕ, L
 use Rattle.gd_base.specs.declared.step.Numbered.{Numbered}
 use Rattle.gd_cabinet.specs.Cabinet.{cabinet_core, cabinet_disk, cabinet_draws}
 use Rattle.gd_script.specs.declared.item.Item.{Item}
-use Rattle.gd_top.specs.Code.Memory.{moment, moment_open, outside}
+use Rattle.gd_top.specs.Code.Memory.{moment, moment_on, outside}
 use Rattle.gd_top.specs.Code.Parts.{GivesText}
 use Rattle.gd_top.specs.Run.Items.{event_meaning, item_meaning}
 use Rattle.gd_top.proofs.ItemLemmas.Events.{again_tells, none_tells}
@@ -21,8 +21,8 @@ returns-then-number-eq0-clause-carried g c = λ k.
     let sits = c.requires.sits k in
     let r = c.give_text-given.result in
     let d = c.args.device in
-    let was = moment_open g.C.Core.meaning g.C.Core.view g.L.Disk.state g.W.Draws.block_of g.K.Sink.taken g.K.Sink.faults cabinet k c.args.output.now in
-    let now = moment_open g.C.Core.meaning g.C.Core.view g.L.Disk.state g.W.Draws.block_of g.K.Sink.taken g.K.Sink.faults cabinet k c.give_text-given.new.output in
+    let was = moment_on g.C.Core.meaning g.C.Core.view g.L.Disk.state g.W.Draws.block_of g.K.Sink.taken g.K.Sink.faults cabinet k c.args.output.now in
+    let now = moment_on g.C.Core.meaning g.C.Core.view g.L.Disk.state g.W.Draws.block_of g.K.Sink.taken g.K.Sink.faults cabinet k c.give_text-given.new.output in
     let none : M.last v d ≡ 0 = sym (c.last-number.ensures.value ∙ ap (λ core. (g.C.Core.meaning core).last (g.C.Core.view core) d) c.core.ensures) ∙ c.if-number-eq0.true in
     let text : c.push_none_line.new.text.bytes ≡ none_line d = c.push_none_line.ensures.bytes ∙ ap (λ (bytes : List ℕ). bytes ++ none_line d) c.clear.ensures in
     from_stand (λ M B. item_meaning M B (Item.Again d)) r was now
@@ -60,7 +60,7 @@ returns-clause-carried g c = λ k.
     let d = c.args.device in
     let e : Numbered = record { number = c.last-number.result; event = c.event_of.result } in
     let number : c.last-number.result ≡ M.last v d = c.last-number.ensures.value ∙ ap (λ core. (g.C.Core.meaning core).last (g.C.Core.view core) d) c.core.ensures in
-    let was = moment_open g.C.Core.meaning g.C.Core.view g.L.Disk.state g.W.Draws.block_of g.K.Sink.taken g.K.Sink.faults cabinet k c.args.output.now in
+    let was = moment_on g.C.Core.meaning g.C.Core.view g.L.Disk.state g.W.Draws.block_of g.K.Sink.taken g.K.Sink.faults cabinet k c.args.output.now in
     let now = moment g.C.Core.meaning g.C.Core.view g.L.Disk.state g.W.Draws.block_of g.K.Sink.taken g.K.Sink.faults c.carry_event.result.0 k c.carry_event.new.output in
     out_as (λ M B. event_meaning M B e) (λ M B. item_meaning M B (Item.Again d)) c.carry_event.result.1 was now
     (λ s x. again_tells M B v d e c.event_of.ensures.device number (λ none. c.if-number-eq0.false (number ∙ none)) (stand s was) x) (c.carry_event.ensures.carried k)

@@ -4,7 +4,7 @@ use Rattle.gd_cabinet.specs.Answers.{view_offered}
 use Rattle.gd_cabinet.specs.Cabinet.{cabinet_core, cabinet_disk, cabinet_draws, cabinet_lap, cabinet_stopped}
 use Rattle.gd_cabinet.specs.Shown.{ShowsEither}
 use Rattle.gd_disk.proofs.Runs.{at_end}
-use Rattle.gd_top.specs.Code.Memory.{moment_open, outside}
+use Rattle.gd_top.specs.Code.Memory.{moment_on, outside}
 use Rattle.gd_top.specs.Code.Parts.{GivesText}
 use Rattle.gd_top.specs.Report.AnswerText.{answer_text}
 use Rattle.gd_top.specs.Run.Items.{event_meaning}
@@ -26,8 +26,8 @@ returns-in-Ok-clause-carried g c = λ k.
     let new = g.L.Disk.state (cabinet_disk c.submit.new.self) in
     let e = c.args.e.now in
     let r = c.give_text-given.result in
-    let was = moment_open g.C.Core.meaning g.C.Core.view g.L.Disk.state g.W.Draws.block_of g.K.Sink.taken g.K.Sink.faults cabinet k c.args.output.now in
-    let now = moment_open g.C.Core.meaning g.C.Core.view g.L.Disk.state g.W.Draws.block_of g.K.Sink.taken g.K.Sink.faults c.submit.new.self k c.give_text-given.new.output in
+    let was = moment_on g.C.Core.meaning g.C.Core.view g.L.Disk.state g.W.Draws.block_of g.K.Sink.taken g.K.Sink.faults cabinet k c.args.output.now in
+    let now = moment_on g.C.Core.meaning g.C.Core.view g.L.Disk.state g.W.Draws.block_of g.K.Sink.taken g.K.Sink.faults c.submit.new.self k c.give_text-given.new.output in
     let run = c.in-Ok.ensures.run.whole in
     let after : w ≡ view_offered M B 0 v e = c.in-Ok.ensures.view ∙ ap (λ (lap : ℕ). view_offered M B lap v e) (c.requires.sits k).first_lap in
     let gives = subst (GivesText r _ _) (c.write_answer.ensures (answer M v e) (M.count w) c.in-Ok.ensures.answer) c.give_text-given.ensures.given in
@@ -80,8 +80,8 @@ returns-in-Err-clause-carried g c = λ k.
     let new = g.L.Disk.state (cabinet_disk c.submit.new.self) in
     let e = c.args.e.now in
     let sits = c.requires.sits k in
-    let was = moment_open g.C.Core.meaning g.C.Core.view g.L.Disk.state g.W.Draws.block_of g.K.Sink.taken g.K.Sink.faults cabinet k c.args.output.now in
-    let now = moment_open g.C.Core.meaning g.C.Core.view g.L.Disk.state g.W.Draws.block_of g.K.Sink.taken g.K.Sink.faults c.submit.new.self k c.args.output.now in
+    let was = moment_on g.C.Core.meaning g.C.Core.view g.L.Disk.state g.W.Draws.block_of g.K.Sink.taken g.K.Sink.faults cabinet k c.args.output.now in
+    let now = moment_on g.C.Core.meaning g.C.Core.view g.L.Disk.state g.W.Draws.block_of g.K.Sink.taken g.K.Sink.faults c.submit.new.self k c.args.output.now in
     let syncs = c.in-Err.ensures.syncs sits.runs in
     let failed = failed_run _ old new sits.no_cut (c.in-Err.ensures.run.failed sits.power) in
     from_stand (λ M B. event_meaning M B e) (Err Halt.DiskFault) was now

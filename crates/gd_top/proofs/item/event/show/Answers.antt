@@ -1,7 +1,7 @@
 use Rattle.std.proofs.Common.{◌≡◌, ◌∙◌, ap, subst, refl, length, arith}
 use Rattle.gd_cabinet.specs.Cabinet.{cabinet_core, cabinet_disk, cabinet_draws}
 use Rattle.gd_script.specs.declared.item.Item.{Item}
-use Rattle.gd_top.specs.Code.Memory.{moment_open, outside}
+use Rattle.gd_top.specs.Code.Memory.{moment_on, outside}
 use Rattle.gd_top.specs.Code.Parts.{GivesText}
 use Rattle.gd_top.specs.Run.Items.{item_meaning}
 use Rattle.gd_top.proofs.RunLemmas.Equations.{show_is}
@@ -20,8 +20,8 @@ returns-clause-carried g c = λ k.
     let sits = c.requires.sits k in
     let r = c.give_text-given.result in
     let what = c.args.what in
-    let was = moment_open g.C.Core.meaning g.C.Core.view g.L.Disk.state g.W.Draws.block_of g.K.Sink.taken g.K.Sink.faults cabinet k c.args.output.now in
-    let now = moment_open g.C.Core.meaning g.C.Core.view g.L.Disk.state g.W.Draws.block_of g.K.Sink.taken g.K.Sink.faults cabinet k c.give_text-given.new.output in
+    let was = moment_on g.C.Core.meaning g.C.Core.view g.L.Disk.state g.W.Draws.block_of g.K.Sink.taken g.K.Sink.faults cabinet k c.args.output.now in
+    let now = moment_on g.C.Core.meaning g.C.Core.view g.L.Disk.state g.W.Draws.block_of g.K.Sink.taken g.K.Sink.faults cabinet k c.give_text-given.new.output in
     let text : c.show.new.into.bytes ≡ M.text what v = c.show.ensures ∙ ap (λ core. (g.C.Core.meaning core).text what (g.C.Core.view core)) c.core.ensures in
     from_stand (λ M B. item_meaning M B (Item.Show what)) r was now
     (λ s clear.

@@ -6,7 +6,7 @@ use Rattle.gd_cabinet.specs.OpenMoments.{opening_syncs, view_started}
 use Rattle.gd_store.specs.Copy.{found_in}
 use Rattle.gd_store.specs.Repair.{repair_needed}
 use Rattle.gd_store.specs.declared.copy.layout.TheConstants.{LAYOUT}
-use Rattle.gd_top.specs.Code.Memory.{moment_open, moment_closed, outside}
+use Rattle.gd_top.specs.Code.Memory.{moment_on, moment_off, outside}
 use Rattle.gd_top.specs.Code.Parts.{GivesText}
 use Rattle.gd_top.specs.Report.Lines.{power_line, start_text}
 use Rattle.gd_top.specs.Run.Openings.{power_on, Done}
@@ -27,8 +27,8 @@ returns-then-is_err-clause-carried g c =
     let v = g.C.Core.view parts.core in
     let old = g.L.Disk.state parts.disk in
     let off = g.L.Disk.state c.power_on.new.self in
-    let was = moment_closed g.C.Core.meaning g.C.Core.view g.L.Disk.state g.W.Draws.block_of g.K.Sink.taken g.K.Sink.faults parts c.args.counts.now c.args.output.now in
-    let now = moment_closed g.C.Core.meaning g.C.Core.view g.L.Disk.state g.W.Draws.block_of g.K.Sink.taken g.K.Sink.faults (record parts { disk = c.power_on.new.self }) c.args.counts.now c.args.output.now in
+    let was = moment_off g.C.Core.meaning g.C.Core.view g.L.Disk.state g.W.Draws.block_of g.K.Sink.taken g.K.Sink.faults parts c.args.counts.now c.args.output.now in
+    let now = moment_off g.C.Core.meaning g.C.Core.view g.L.Disk.state g.W.Draws.block_of g.K.Sink.taken g.K.Sink.faults (record parts { disk = c.power_on.new.self }) c.args.counts.now c.args.output.now in
     from_stand (λ M B. power_on M B Nothing Done) (Err Halt.DiskFault) was now
     (λ s clear. (
       stand s was,
@@ -49,8 +49,8 @@ returns-in-Ready-clause-carried g c =
     let disk = g.L.Disk.state (cabinet_disk cabinet) in
     let n = c.args.counts.now.power_ons in
     let r = c.give_text-given.result in
-    let was = moment_closed g.C.Core.meaning g.C.Core.view g.L.Disk.state g.W.Draws.block_of g.K.Sink.taken g.K.Sink.faults parts c.args.counts.now c.args.output.now in
-    let now = moment_open g.C.Core.meaning g.C.Core.view g.L.Disk.state g.W.Draws.block_of g.K.Sink.taken g.K.Sink.faults cabinet (record c.args.counts.now { power_ons = n + 1 }) c.give_text-given.new.output in
+    let was = moment_off g.C.Core.meaning g.C.Core.view g.L.Disk.state g.W.Draws.block_of g.K.Sink.taken g.K.Sink.faults parts c.args.counts.now c.args.output.now in
+    let now = moment_on g.C.Core.meaning g.C.Core.view g.L.Disk.state g.W.Draws.block_of g.K.Sink.taken g.K.Sink.faults cabinet (record c.args.counts.now { power_ons = n + 1 }) c.give_text-given.new.output in
     let h = ok_of c.power_on.result _ (sym c.is_err.ensures.value ∙ c.if-is_err.false) c.power_on.ensures.found in
     let shown = holds_shows M v h.image (c.requires.sits.both h.image h.could_be) in
     let told = told_at on.seen h.image _ h.seen c.in-Ready.ensures.what in
@@ -81,8 +81,8 @@ returns-in-Off-clause-carried g c =
     let disk = g.L.Disk.state c.in-Off.parts.disk in
     let n = c.args.counts.now.power_ons in
     let halt = c.end_opening-halt.result in
-    let was = moment_closed g.C.Core.meaning g.C.Core.view g.L.Disk.state g.W.Draws.block_of g.K.Sink.taken g.K.Sink.faults parts c.args.counts.now c.args.output.now in
-    let now = moment_closed g.C.Core.meaning g.C.Core.view g.L.Disk.state g.W.Draws.block_of g.K.Sink.taken g.K.Sink.faults c.in-Off.parts (record c.args.counts.now { power_ons = n + 1 }) c.end_opening-halt.new.output in
+    let was = moment_off g.C.Core.meaning g.C.Core.view g.L.Disk.state g.W.Draws.block_of g.K.Sink.taken g.K.Sink.faults parts c.args.counts.now c.args.output.now in
+    let now = moment_off g.C.Core.meaning g.C.Core.view g.L.Disk.state g.W.Draws.block_of g.K.Sink.taken g.K.Sink.faults c.in-Off.parts (record c.args.counts.now { power_ons = n + 1 }) c.end_opening-halt.new.output in
     let ok = sym c.is_err.ensures.value ∙ c.if-is_err.false in
     let h = ok_of c.power_on.result _ ok c.power_on.ensures.found in
     let shown = holds_shows M v h.image (c.requires.sits.both h.image h.could_be) in

@@ -1,7 +1,7 @@
 use Rattle.std.proofs.Common.{◌∙◌, ap, subst, refl, ℕ, List, ◌+◌, ◌++◌, length, arith, codes}
 use Rattle.gd_cabinet.specs.Cabinet.{cabinet_core, cabinet_disk, cabinet_draws}
 use Rattle.gd_script.specs.declared.item.Item.{Item}
-use Rattle.gd_top.specs.Code.Memory.{moment_open, moment_closed, outside}
+use Rattle.gd_top.specs.Code.Memory.{moment_on, moment_off, outside}
 use Rattle.gd_top.specs.Code.Parts.{GivesText}
 use Rattle.gd_top.specs.Run.Items.{item_meaning}
 use Rattle.gd_top.proofs.ItemLemmas.Images.{both_alike, still_both, settled, settled_after, unmasked}
@@ -23,8 +23,8 @@ returns-clause-carried g c = λ k.
     let off = g.L.Disk.state c.power_off.new.self in
     let parts = record closed { disk = c.power_off.new.self } in
     let w = g.C.Core.view closed.core in
-    let was = moment_open g.C.Core.meaning g.C.Core.view g.L.Disk.state g.W.Draws.block_of g.K.Sink.taken g.K.Sink.faults cabinet k c.args.output.now in
-    let now = moment_closed g.C.Core.meaning g.C.Core.view g.L.Disk.state g.W.Draws.block_of g.K.Sink.taken g.K.Sink.faults parts k c.give_text-given.new.output in
+    let was = moment_on g.C.Core.meaning g.C.Core.view g.L.Disk.state g.W.Draws.block_of g.K.Sink.taken g.K.Sink.faults cabinet k c.args.output.now in
+    let now = moment_off g.C.Core.meaning g.C.Core.view g.L.Disk.state g.W.Draws.block_of g.K.Sink.taken g.K.Sink.faults parts k c.give_text-given.new.output in
     let both = both_alike M (g.C.Core.meaning closed.core) w w (g.L.Disk.state closed.disk) (ap g.C.Core.meaning c.close-parts.ensures.core) refl (c.close-parts.ensures.both sits.runs) in
     let same = c.close-parts.ensures.disk in
     from_stand (λ M B. item_meaning M B Item.Off) r was now

@@ -1,6 +1,6 @@
 use Rattle.std.proofs.Common.{arith, Err}
 use Rattle.gd_script.specs.declared.item.Item.{Item}
-use Rattle.gd_top.specs.Code.Memory.{moment, moment_closed, outside}
+use Rattle.gd_top.specs.Code.Memory.{moment, moment_off, outside}
 use Rattle.gd_top.specs.Run.Items.{item_meaning}
 use Rattle.gd_top.specs.Run.Openings.{power_on, Done}
 use Rattle.gd_top.specs.Run.State.{Nothing}
@@ -13,7 +13,7 @@ use Rattle.gd_top.proofs.item.power.turn_on.Goals as goal
 pub returns-then-counts-lt-MOST_POWER_ONS-clause-carried : goal.returns-then-counts-lt-MOST_POWER_ONS-clause-carried
 returns-then-counts-lt-MOST_POWER_ONS-clause-carried g c =
     let parts = c.args.parts in
-    let was = moment_closed g.C.Core.meaning g.C.Core.view g.L.Disk.state g.W.Draws.block_of g.K.Sink.taken g.K.Sink.faults parts c.args.counts.now c.args.output.now in
+    let was = moment_off g.C.Core.meaning g.C.Core.view g.L.Disk.state g.W.Draws.block_of g.K.Sink.taken g.K.Sink.faults parts c.args.counts.now c.args.output.now in
     let now = moment g.C.Core.meaning g.C.Core.view g.L.Disk.state g.W.Draws.block_of g.K.Sink.taken g.K.Sink.faults c.open_memory.result.0 c.open_memory.new.counts c.open_memory.new.output in
     out_as (λ M B. power_on M B Nothing Done) (λ M B. item_meaning M B Item.On) c.open_memory.result.1 was now
     (λ s x. on_opens was.machine was.blocks was.view (stand s was) x c.if-counts-lt-MOST_POWER_ONS.true) c.open_memory.ensures.carried
@@ -21,7 +21,7 @@ returns-then-counts-lt-MOST_POWER_ONS-clause-carried g c =
 pub returns-else-counts-lt-MOST_POWER_ONS-clause-carried : goal.returns-else-counts-lt-MOST_POWER_ONS-clause-carried
 returns-else-counts-lt-MOST_POWER_ONS-clause-carried g c =
     let parts = c.args.parts in
-    let was = moment_closed g.C.Core.meaning g.C.Core.view g.L.Disk.state g.W.Draws.block_of g.K.Sink.taken g.K.Sink.faults parts c.args.counts.now c.args.output.now in
+    let was = moment_off g.C.Core.meaning g.C.Core.view g.L.Disk.state g.W.Draws.block_of g.K.Sink.taken g.K.Sink.faults parts c.args.counts.now c.args.output.now in
     from_stand (λ M B. item_meaning M B Item.On) (Err Halt.ScriptFault) was was
     (λ s clear. (
       stand s was,

@@ -2,7 +2,7 @@ use Rattle.std.proofs.Common.{◌≡◌, ◌∙◌, ap, sym, refl, Err}
 use Rattle.gd_base.specs.declared.step.Numbered.{Numbered}
 use Rattle.gd_cabinet.specs.Cabinet.{cabinet_core, cabinet_draws}
 use Rattle.gd_script.specs.declared.item.Item.{Item}
-use Rattle.gd_top.specs.Code.Memory.{moment, moment_open, moment_closed}
+use Rattle.gd_top.specs.Code.Memory.{moment, moment_on, moment_off}
 use Rattle.gd_top.specs.Code.Standing.{at}
 use Rattle.gd_top.specs.Run.Items.{event_meaning, item_meaning}
 use Rattle.gd_top.specs.Script.Built.{next_of}
@@ -20,7 +20,7 @@ returns-in-Event-clause-carried g c =
     let M = g.C.Core.meaning (cabinet_core cabinet) in
     let B = g.W.Draws.block_of (cabinet_draws cabinet) in
     let v = g.C.Core.view (cabinet_core cabinet) in
-    let was = moment_open g.C.Core.meaning g.C.Core.view g.L.Disk.state g.W.Draws.block_of g.K.Sink.taken g.K.Sink.faults cabinet c.args.counts.now c.args.output.now in
+    let was = moment_on g.C.Core.meaning g.C.Core.view g.L.Disk.state g.W.Draws.block_of g.K.Sink.taken g.K.Sink.faults cabinet c.args.counts.now c.args.output.now in
     let now = moment g.C.Core.meaning g.C.Core.view g.L.Disk.state g.W.Draws.block_of g.K.Sink.taken g.K.Sink.faults c.carry_event.result.0 c.args.counts.now c.carry_event.new.output in
     let event = c.in-Event.event in
     let e = c.next_numbered-e.result in
@@ -38,7 +38,7 @@ returns-in-As-clause-carried g c =
     let M = g.C.Core.meaning (cabinet_core cabinet) in
     let B = g.W.Draws.block_of (cabinet_draws cabinet) in
     let v = g.C.Core.view (cabinet_core cabinet) in
-    let was = moment_open g.C.Core.meaning g.C.Core.view g.L.Disk.state g.W.Draws.block_of g.K.Sink.taken g.K.Sink.faults cabinet c.args.counts.now c.args.output.now in
+    let was = moment_on g.C.Core.meaning g.C.Core.view g.L.Disk.state g.W.Draws.block_of g.K.Sink.taken g.K.Sink.faults cabinet c.args.counts.now c.args.output.now in
     let now = moment g.C.Core.meaning g.C.Core.view g.L.Disk.state g.W.Draws.block_of g.K.Sink.taken g.K.Sink.faults c.carry_event-in-As.result.0 c.args.counts.now c.carry_event-in-As.new.output in
     let e : Numbered = record { number = c.in-As.number; event = c.in-As.event } in
     item_by (λ memory. moment g.C.Core.meaning g.C.Core.view g.L.Disk.state g.W.Draws.block_of g.K.Sink.taken g.K.Sink.faults memory c.args.counts.now c.args.output.now) c.args.memory (Memory.On c.in-On.cabinet) c.in-On.is (c.carry_event-in-As.result.1) (moment g.C.Core.meaning g.C.Core.view g.L.Disk.state g.W.Draws.block_of g.K.Sink.taken g.K.Sink.faults c.carry_event-in-As.result.0 c.args.counts.now c.carry_event-in-As.new.output) c.args.item (Item.As c.in-As.number c.in-As.event) c.in-As.is
@@ -79,13 +79,13 @@ returns-in-On-item-clause-carried g c =
 
 pub returns-in_default-clause-carried : goal.returns-in_default-clause-carried
 returns-in_default-clause-carried g c =
-    let was = moment_open g.C.Core.meaning g.C.Core.view g.L.Disk.state g.W.Draws.block_of g.K.Sink.taken g.K.Sink.faults c.in-On.cabinet c.args.counts.now c.args.output.now in
+    let was = moment_on g.C.Core.meaning g.C.Core.view g.L.Disk.state g.W.Draws.block_of g.K.Sink.taken g.K.Sink.faults c.in-On.cabinet c.args.counts.now c.args.output.now in
     item_by (λ memory. moment g.C.Core.meaning g.C.Core.view g.L.Disk.state g.W.Draws.block_of g.K.Sink.taken g.K.Sink.faults memory c.args.counts.now c.args.output.now) c.args.memory (Memory.On c.in-On.cabinet) c.in-On.is (Err Halt.ScriptFault) (moment g.C.Core.meaning g.C.Core.view g.L.Disk.state g.W.Draws.block_of g.K.Sink.taken g.K.Sink.faults (Memory.On c.in-On.cabinet) c.args.counts.now c.args.output.now) c.args.item c.args.item refl
     (stops_out was c.args.item (λ s x. no_place_on was.machine was.blocks c.args.item c.requires.built c.in_default.not-Event c.in_default.not-Again c.in_default.not-As c.in_default.not-Off c.in_default.not-Show c.requires.no_comment was.view (stand s was) x))
 
 pub returns-in_default-item-clause-carried : goal.returns-in_default-item-clause-carried
 returns-in_default-item-clause-carried g c =
-    let was = moment_closed g.C.Core.meaning g.C.Core.view g.L.Disk.state g.W.Draws.block_of g.K.Sink.taken g.K.Sink.faults c.in-Off.parts c.args.counts.now c.args.output.now in
+    let was = moment_off g.C.Core.meaning g.C.Core.view g.L.Disk.state g.W.Draws.block_of g.K.Sink.taken g.K.Sink.faults c.in-Off.parts c.args.counts.now c.args.output.now in
     let d = c.in_default-item in
     item_by (λ memory. moment g.C.Core.meaning g.C.Core.view g.L.Disk.state g.W.Draws.block_of g.K.Sink.taken g.K.Sink.faults memory c.args.counts.now c.args.output.now) c.args.memory (Memory.Off c.in-Off.parts) c.in-Off.is (Err Halt.ScriptFault) was c.args.item c.args.item refl
     (stops_out was c.args.item (λ s x. no_place_off was.machine was.blocks c.args.item c.requires.built d.not-On c.requires.no_comment was.view (stand s was) x))
