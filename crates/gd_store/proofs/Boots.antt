@@ -44,7 +44,7 @@ clash : (m : ℕ) → Bad Shut ≡ Sound m → ⊥
 clash m same = cc
 
 -- a sound copy is open
-sound_open : (l : Layout) (m : ℕ) (copy : List ℕ) → state_of l copy ≡ Sound m → get_or copy 0 0 ≡ 0xA5
+pub sound_open : (l : Layout) (m : ℕ) (copy : List ℕ) → state_of l copy ≡ Sound m → get_or copy 0 0 ≡ 0xA5
 sound_open l m copy sound = elim (cases_eq (get_or copy 0 0) 0xA5) [
   | inl is_open ↦ is_open
   | inr shut ↦ absurd (clash m (sym (shut_state l copy shut) ∙ sound))

@@ -14,3 +14,5 @@ mod MakingBoots
 mod Lent
 mod MakingMoments
 mod AnyMakings
+mod Alterations
+pub mod MaskedBoots

@@ -20,7 +20,7 @@ bad_b : (l : Layout) (c : List ℕ) → IsShut l.b c → is_sound (state_of l (c
 bad_b l c shut = ap is_sound (shut_state l (copy_b l c) (λ is_open. shut (sym (first_of l.b (copy_len l.pages) c (omega arith)) ∙ is_open)))
 
 -- beside a bad copy a sound one is booted
-chosen_one : (n : ℕ) (p q : List ℕ) (t : CopyState) → is_sound t ≡ false → latest_copy (Sound n) t p q ≡ Some (n, p)
+pub chosen_one : (n : ℕ) (p q : List ℕ) (t : CopyState) → is_sound t ≡ false → latest_copy (Sound n) t p q ≡ Some (n, p)
 chosen_one n p q (Sound m) bad = absurd (cc bad)
 chosen_one n p q (Bad why) bad = refl
 

@@ -1,3 +1,4 @@
+pub mod AtRest
 pub mod Booting
 pub mod Choice
 pub mod Copy

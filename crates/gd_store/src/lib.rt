@@ -4,6 +4,7 @@
 
 mod booting;
 mod copy;
+mod laws;
 mod making;
 mod opening;
 mod room;
@@ -13,6 +14,7 @@ mod tests;
 
 pub use booting::{Booted, boot};
 pub use copy::{CopyState, Found, LAYOUT, Layout, MOST_SEQUENCE, Why};
+pub use laws::altered_at_rest;
 pub use making::Made;
 pub use opening::Opened;
 pub use room::Room;
