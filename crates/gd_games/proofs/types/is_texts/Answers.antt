@@ -1,0 +1,11 @@
+use Rattle.std.proofs.Common.{◌∙◌, ap, sym}
+use Rattle.toml.proofs.Views.{view-Array}
+use Rattle.toml.specs.View.{view}
+use Rattle.gd_games.specs.Kinds.{is_text, is_list_of}
+use Rattle.gd_games.proofs.Lists.{items_pass}
+use Rattle.gd_games.proofs.types.is_texts.Goals as goal
+
+pub returns-in-Array : goal.returns-in-Array
+returns-in-Array c =
+    c.are_texts.ensures ∙ items_pass is_text c.in-Array.items.items
+    ∙ sym (ap (is_list_of is_text) (ap view c.in-Array.is ∙ view-Array c.in-Array.items))

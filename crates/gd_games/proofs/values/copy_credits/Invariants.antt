@@ -1,0 +1,7 @@
+use Rattle.std.proofs.Common.{◌≡◌, ◌++◌, map, take, drop}
+use Rattle.toml.specs.View.{view}
+use Rattle.gd_games.specs.Values.{number_in}
+use Rattle.gd_games.proofs.values.copy_credits.Given as goal
+
+abbrev pub invariant-loop-place : goal.invariant-loop-place
+invariant-loop-place l = l.into ≡ map (λ v. number_in (view v)) (take l.place l.items.items) ++ drop l.place l.initial.into
