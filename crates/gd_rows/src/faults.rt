@@ -1,8 +1,11 @@
-//! Faults of the sink and of the disk at each place of a script that repeats an event over a loss of power.
+//! Faults of the sink and of the disk at each place of a script that repeats an event over a loss of power, and of the disk in
+//! a repair.
 
-use crate::runs::{Run, are_sound, lines, trial};
+use crate::left::{Left, expect_left};
+use crate::runs::{Run, are_sound, lines, report, trial};
 use gd_base::MemorySource;
 use gd_disk::{DISK_LEN, LabDisk, MemoryLab};
+use gd_store::{CopyState, Found, Why};
 use gd_top::Status;
 use std::alloc::Global;
 use std::process::Abort;
@@ -131,5 +134,51 @@ fn a_disk_that_fails_at_each_call(rt: HostRuntime) -> Result<(), Fail> {
     assert_eq!(rt; run.status, Status::Done);
     let whole = first_lines(alloc, REPORT.len())?;
     assert_eq!(rt; run.output.bytes(), whole.as_slice());
+    Ok(())
+}
+
+/// A bill, and the opening of a memory of which copy a was altered.
+const REPAIRING: &[&str] = &["bill 500", "off", "alter a 2000 1", "on"];
+
+/// The lines of the report before the start of that opening.
+const FOUND: &[&str] = &[
+    "ack bill 1 taken at 2",
+    "off",
+    "altered a 2000",
+    "power 2: a page 1, b sound 2",
+];
+
+/// Calls of the disk from the first to the last of each part of that opening, and how copy a is found behind a fault in one of
+/// them. The 39 calls of the making, the first opening and the bill stand before, and two readings of both copies.
+#[rattlefmt::skip]
+const REPAIR: &[(u64, u64, CopyState)] = &[
+    // Gate a is shut: a write and a sync.
+    (44, 45, CopyState::Bad(Why::BadPage(1))),
+    // The body with its sync, and the gate with its own.
+    (46, 49, CopyState::Bad(Why::Shut)),
+    // The first write of the start.
+    (50, 50, CopyState::Sound(2)),
+];
+
+/// At a fault of the disk in a repair, or behind it, the start isn't told, and copy b stands as it was.
+#[test]
+fn a_disk_that_fails_in_a_repair(rt: HostRuntime) -> Result<(), Fail> {
+    let alloc = rt.alloc();
+    let mut wanted = report(alloc, FOUND)?;
+    wanted.extend_from_slice(b"disk fault\n")?;
+    for (first, last, a) in REPAIR {
+        for call in *first..=*last {
+            let script = MemorySource::of(lines(alloc, REPAIRING)?, None);
+            let lab = MemoryLab::faulty(alloc, DISK_LEN, call)?;
+            let run = trial(alloc, &["trial"], script, ROOM, lab)?;
+            assert_eq!(rt; run.status, Status::DiskFault);
+            assert_eq!(rt; run.output.bytes(), wanted.as_slice());
+            let found = Found {
+                a: *a,
+                b: CopyState::Sound(2),
+            };
+            expect_left(&rt, alloc, run.lab, Left::Off(found))?;
+        }
+    }
     Ok(())
 }

@@ -2,9 +2,27 @@
 #![tactic(auto)]
 
 #[cfg(test)]
+mod alterations;
+#[cfg(test)]
+mod clearings;
+#[cfg(test)]
+mod cut_limits;
+#[cfg(test)]
+mod cut_makings;
+#[cfg(test)]
+mod cut_starts;
+#[cfg(test)]
+mod cuts;
+#[cfg(test)]
 mod faults;
 #[cfg(test)]
+mod forgeries;
+#[cfg(test)]
 mod inputs;
+#[cfg(test)]
+mod left;
+#[cfg(test)]
+mod masks;
 #[cfg(test)]
 mod refusals;
 #[cfg(test)]

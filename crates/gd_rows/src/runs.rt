@@ -5,7 +5,7 @@ ghost use Rattle.std.specs.Prelude.{◌≡◌, [], true};
 use gd_base::{Draws, ListDraws, MemorySink, MemorySource, Source};
 use gd_disk::{DISK_LEN, LabDisk, MemoryDisk};
 use gd_store::{Booted, CopyState, Room, boot};
-use gd_top::{Status, cabinet};
+use gd_top::{Falls, Status, cabinet};
 use std::alloc::Global;
 use std::process::Abort;
 use std::test::Fail;
@@ -17,6 +17,7 @@ const OPENING: [&str; 2] = ["power 1: a sound 0, b sound 0", "start at 1"];
 #[derive(Drop)]
 pub(crate) struct Run<L> {
     pub(crate) status: Status,
+    pub(crate) falls: Falls,
     pub(crate) output: MemorySink,
     pub(crate) lab: L,
 }
@@ -66,6 +67,7 @@ pub(crate) fn trial_with_draws<S: Source + Drop, L: LabDisk + Drop, W: Draws + D
     );
     Ok(Run {
         status: ended.status,
+        falls: ended.falls,
         output,
         lab: ended.lab,
     })

@@ -8,3 +8,4 @@ pub mod PlayLines
 pub mod Loaded
 pub mod Spelling
 pub mod Wholes
+pub mod Apart

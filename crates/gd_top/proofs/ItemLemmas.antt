@@ -4,3 +4,17 @@ pub mod Events
 pub mod Opening
 pub mod PowerLines
 pub mod Lines
+pub mod Clearing
+pub mod EventOffers
+pub mod EventEnds
+pub mod EventLoop
+pub mod OpeningOffers
+pub mod MakingOffers
+pub mod Readings
+pub mod OpeningEnds
+pub mod OpenedSo
+pub mod Emptiness
+pub mod Arming
+pub mod OpeningMoments
+pub mod Reopening
+pub mod TurningOn

@@ -6,3 +6,8 @@ pub mod Equations
 pub mod Parts
 pub mod Said
 pub mod Standings
+pub mod Answered
+pub mod Cuts
+pub mod OffersAt
+pub mod Resolved
+pub mod Handed

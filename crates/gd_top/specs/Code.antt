@@ -3,3 +3,4 @@ pub mod Standing
 pub mod Parts
 pub mod Memory
 pub mod LinesDone
+pub mod Falls

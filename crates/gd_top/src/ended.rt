@@ -10,7 +10,7 @@ pub type Falls = ArrayVec<u32, 256>;
 #[derive(Drop)]
 pub struct Ended<L, D, W> {
     pub status: Status,
-    /// None, until a line can arm a cut.
+    /// Those of the run.
     pub falls: Falls,
     /// The laboratory, as the run left it.
     pub lab: L,

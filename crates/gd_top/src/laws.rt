@@ -3,8 +3,8 @@
 ghost use Rattle.gd_base.specs.declared.setup.Setup.{Setup};
 ghost use Rattle.gd_base.specs.Judging.Machine.{Blocks};
 ghost use Rattle.gd_base.specs.Judging.SoFar.{machine_so_far};
-ghost use Rattle.gd_top.specs.Claims.NothingLost.{NothingLost};
-ghost use Rattle.gd_top.specs.Claims.OneHistory.{OneLegalHistory, OneLegalHistoryOverImages};
+ghost use Rattle.gd_top.specs.Claims.NothingLost.{Acknowledged, NothingLost};
+ghost use Rattle.gd_top.specs.Claims.OneHistory.{BeginsEmpty, OneLegalHistory, OneLegalHistoryOverImages};
 ghost use Rattle.gd_top.specs.Examples.Alterations.{AlteredBefore, AlteredCopies, ForgedImages, Locks};
 ghost use Rattle.gd_top.specs.Examples.Clearing.{Cleared, ClearingsCut, UnderLock};
 ghost use Rattle.gd_top.specs.Examples.Cuts.{ArmedCuts, CutsAtCalls, CutsAtSyncs, Flights, Limits, OtherViews, Synced};
@@ -13,19 +13,25 @@ ghost use Rattle.gd_top.specs.Examples.Reports.{ImageReports, PlainReports, Repe
 ghost use Rattle.gd_top.specs.FirstCore.Histories.{KeepsAllRules};
 
 /// In every trial and in every run over an image, whatever is found and wherever the power falls, the history is legal
-/// and the view is its view.
+/// and the view is its view. In a trial it begins with the empty view, unless a view was found that no order of writing
+/// explains.
 pub fn one_legal_history()
     ensures trials { (setup : Setup) (blocks : Blocks)
         → OneLegalHistory (machine_so_far setup) blocks }
     ensures images { (setup : Setup) (blocks : Blocks)
         → OneLegalHistoryOverImages (machine_so_far setup) blocks }
+    ensures begins { (setup : Setup) (blocks : Blocks)
+        → BeginsEmpty (machine_so_far setup) blocks }
 {}
 
 /// What was recorded at the end of a line of a trial stays recorded, whatever is found and wherever the power falls, until
-/// a memory is cleared or a view is found that no order of writing explains.
+/// a memory is cleared or a view is found that no order of writing explains. The line of an event ends with its answer, and
+/// what it acknowledges is recorded then.
 pub fn nothing_lost()
-    ensures { (setup : Setup) (blocks : Blocks)
+    ensures stays { (setup : Setup) (blocks : Blocks)
         → NothingLost (machine_so_far setup) blocks }
+    ensures acknowledged { (setup : Setup) (blocks : Blocks)
+        → Acknowledged (machine_so_far setup) blocks }
 {}
 
 /// The view of each legal history from nothing keeps all rules of a view: no money is lost or made, no number is too wide

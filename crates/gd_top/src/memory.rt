@@ -1,5 +1,6 @@
 //! The memory of a trial, and what is counted of it.
 
+pub(crate) mod counts;
 pub(crate) mod making;
 
 use gd_base::{Core, Draws};
@@ -18,13 +19,6 @@ pub(crate) enum Memory<C: Core, L: LabDisk, W: Draws> {
     On(Cabinet<C, L, W>),
     /// Closed, with the power off.
     Off(Parts<C, L, W>),
-}
-
-/// What a trial has counted so far. One is a local of the trial, and is lent down.
-#[derive(Clone, Copy, Debug, PartialEq, Eq)]
-pub(crate) struct Counts {
-    /// The lines that were carried out.
-    pub(crate) lines: u64,
-    /// How often the power was turned on.
-    pub(crate) power_ons: u64,
+    /// Closed, with the power on over a memory that can't be opened.
+    Locked(Parts<C, L, W>),
 }

@@ -127,6 +127,10 @@ fn carry_out<S: Source, K: Sink>(
         × WroteReport (machine_so_far built_in_setup) (seeded_block 1) Status.Done ended.falls.items
         (outer S.left S.faults K.taken K.faults lab_state input.old output.old lab)
         (outer S.left S.faults K.taken K.faults lab_state input.new output.new ended.lab)) }
+    ensures locked { IfOk result (λ ended. ended.status ≡ Status.Locked → (lab : MemoryLab)
+        × WroteReport (machine_so_far built_in_setup) (seeded_block 1) Status.Locked ended.falls.items
+        (outer S.left S.faults K.taken K.faults lab_state input.old output.old lab)
+        (outer S.left S.faults K.taken K.faults lab_state input.new output.new ended.lab)) }
     ensures script_fault { IfOk result (λ ended. ended.status ≡ Status.ScriptFault → (lab : MemoryLab)
         × WroteReport (machine_so_far built_in_setup) (seeded_block 1) Status.ScriptFault
         ended.falls.items

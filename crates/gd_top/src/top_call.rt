@@ -83,7 +83,7 @@ fn command<S: Source, K: Sink, L: LabDisk, D: Disk, W: Draws>(
         × (input.new ≡ input.old) }
     ensures refused { is_trial words.now ≡ false → (result.lab ≡ lab) × (result.draws ≡ draws)
         × (input.new ≡ input.old) }
-    ensures no_falls { result.falls.items ≡ [] }
+    ensures no_falls { IsUnopened result.status → result.falls.items ≡ [] }
     ensures disk { result.disk ≡ disk }
 {
     if !are_trial(words) {
@@ -166,6 +166,12 @@ pub fn cabinet<S: Source, C: Source, K: Sink, L: LabDisk, D: Disk, W: Draws>(
         result.falls.items
         (outer S.left S.faults K.taken K.faults L.state input.old output.old lab)
         (outer S.left S.faults K.taken K.faults L.state input.new output.new result.lab) }
+    // 7: as 0, over a memory that stands locked.
+    ensures locked { result.status ≡ Status.Locked
+        → WroteReport (machine_so_far built_in_setup) (W.block_of draws) Status.Locked result.falls.items
+        (outer S.left S.faults K.taken K.faults L.state input.old output.old lab)
+        (outer S.left S.faults K.taken K.faults L.state input.new output.new result.lab)
+        × IsAtEnd (S.left input.new) }
     // 9: nothing was made.
     ensures no_memory { result.status ≡ Status.OutOfMemory → Appends (K.taken output.old)
         (K.taken output.new) no_memory_text }
@@ -186,8 +192,7 @@ pub fn cabinet<S: Source, C: Source, K: Sink, L: LabDisk, D: Disk, W: Draws>(
     ensures built { IsBuilt result.status }
     // The blocks are such that each legal history keeps all rules of a view (`all_rules_kept`).
     ensures blocks { AreBlocks (W.block_of draws) }
-    // No line arms a cut yet.
-    ensures no_falls { result.falls.items ≡ [] }
+    ensures no_falls { IsUnopened result.status → result.falls.items ≡ [] }
     ensures disk { result.disk ≡ disk }
     ensures setup { setup.new ≡ setup.old }
 {

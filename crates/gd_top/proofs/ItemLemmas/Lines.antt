@@ -1,25 +1,32 @@
 -- A line, by the power and by its item.
-use Rattle.std.proofs.Common.{◌≡◌, ◌∙◌, sym, subst, Option, Some, None, refl, ap, [], arith, Result, Ok, Err, true}
+use Rattle.std.proofs.Common.{◌≡◌, ◌∙◌, sym, subst, Option, Some, None, refl, ap, ℕ, ◌≤◌, List, [], arith, Result, Ok, Err, OnErr, true}
+use Rattle.gd_base.specs.Judging.Machine.{Machine, Blocks}
+use Rattle.gd_base.specs.Outside.Causes.{Rose}
 use Rattle.gd_script.specs.declared.item.Item.{Item}
-use Rattle.gd_top.specs.Code.Memory.{Moment, CarriesOut, Leaves, Sits}
+use Rattle.gd_top.specs.Code.Memory.{Moment, CarriesOut, Does, Leaves, Sits}
+use Rattle.gd_top.specs.Claims.MemoryLeft.{IsLeftIn}
 use Rattle.gd_top.specs.Code.Memory.{outside}
+use Rattle.gd_top.specs.Code.Parts.{GivesText}
 use Rattle.gd_top.specs.Code.Standing.{Standing, Later, at}
 use Rattle.gd_top.specs.Run.Items.{item_meaning}
-use Rattle.gd_top.specs.Run.State.{Stops, ends}
+use Rattle.gd_top.specs.Run.State.{State, Part, Phase, Stops, ends, prints}
 use Rattle.gd_top.specs.Script.Built.{built_line, is_comment}
 use Rattle.gd_top.specs.declared.halt.Halt.{Halt}
+use Rattle.gd_top.proofs.RunLemmas.Cuts.{armed_length}
 use Rattle.gd_top.proofs.RunLemmas.Equations.{skip_is}
-use Rattle.gd_top.proofs.RunLemmas.Said.{goes_here, stops_here}
-use Rattle.gd_top.proofs.RunLemmas.Standings.{stand, stand_fits, from_stand}
+use Rattle.gd_top.proofs.RunLemmas.Said.{goes_here, gives_no_disk_fault, gives_no_read_fault, moves_on, on_err_at, said, stops_here}
+use Rattle.gd_top.proofs.RunLemmas.Standings.{stand, from_stand}
 
-module _ {V A : Type 0} (moment_at : A → Moment V) (memory found : A) (is : memory ≡ found) (r : Result (Unit {0}) Halt) (now : Moment V) where
-  pub item_by : (item said : Item) → item ≡ said → CarriesOut (λ M B. item_meaning M B said) r (moment_at found) now → CarriesOut (λ M B. item_meaning M B item) r (moment_at memory) now
-  item_by item said says h =
-      subst (λ (m : A). CarriesOut (λ M B. item_meaning M B item) r (moment_at m) now) (sym is)
-      (subst (λ (i : Item). CarriesOut (λ M B. item_meaning M B i) r (moment_at found) now) (sym says) h)
+-- an item that a line said, over the memory that was found
+pub item_by : {V A : Type 0} (moment_at : A → Moment V) (memory found : A) (is : memory ≡ found) (r : Result (Unit {0}) Halt) (now : Moment V) (item said : Item) → item ≡ said
+    → Does (λ M B. item_meaning M B said) r (moment_at found) now → Does (λ M B. item_meaning M B item) r (moment_at memory) now
+item_by {A = A} moment_at memory found is r now item said says h =
+    subst (λ (m : A). Does (λ M B. item_meaning M B item) r (moment_at m) now) (sym is)
+    (subst (λ (i : Item). Does (λ M B. item_meaning M B i) r (moment_at found) now) (sym says) h)
 
-  pub leaves_by : Leaves r (moment_at found) now → Leaves r (moment_at memory) now
-  leaves_by h = subst (λ (m : A). Leaves r (moment_at m) now) (sym is) h
+-- and what stands there
+pub moved_by : {V A : Type 0} (moment_at : A → Moment V) (memory found : A) → memory ≡ found → Sits (moment_at memory) → Sits (moment_at found)
+moved_by moment_at memory found is h = subst (λ m. Sits (moment_at m)) is h
 
 module _ {V : Type 0} (was : Moment V) where
   -- nothing was done
@@ -35,19 +42,72 @@ module _ {V : Type 0} (was : Moment V) where
   }
 
   -- an item that has no place here, or isn't built
-  pub stops_out : (item : Item) → ((s : Standing V) (x : Later V) → item_meaning was.machine was.blocks item (at (stand s was) x) ≡ ends Stops [] (at (stand s was) x))
-      → CarriesOut (λ M B. item_meaning M B item) (Err Halt.ScriptFault) was was
-  stops_out item tells =
-      from_stand (λ M B. item_meaning M B item) (Err Halt.ScriptFault) was was
-      (λ s clear. (stand s was, (λ serves. stand_fits s was clear), stops_here was.machine (item_meaning was.machine was.blocks item) (stand s was) (outside was) (tells s)))
+  pub stops_does : Sits was → (item : Item) → ((s : Standing V) (x : Later V) → item_meaning was.machine was.blocks item (at (stand s was) x) ≡ ends Stops [] (at (stand s was) x))
+      → Does (λ M B. item_meaning M B item) (Err Halt.ScriptFault) was was
+  stops_does sits item tells = record {
+    carried = from_stand (λ M B. item_meaning M B item) (Err Halt.ScriptFault) was was
+        (λ s fits. (stand s was, (λ serves. fits), stops_here was.machine (item_meaning was.machine was.blocks item) (stand s was) (outside was) (tells s)));
+    leaves = stays sits;
+    reads_nothing = λ is. absurd (cc is);
+  }
+
+  -- a text was given, or a front of it, and nothing else was done
+  pub says_here : (tell : Machine V → Blocks → State V → Part V) (r : Result (Unit {0}) Halt) (taken : Option (List ℕ)) (faults : ℕ) (text : List ℕ) → Sits was
+      → ((s : Standing V) (x : Later V) → tell was.machine was.blocks (at (stand s was) x) ≡ prints text (at (stand s was) x)) → GivesText r was.taken taken text → was.faults ≤ faults → OnErr r (Rose was.faults faults)
+      → Does tell r was (record was { taken = taken; faults = faults })
+  says_here tell r taken faults text sits tells gives later cause =
+      let now : Moment V = record was { taken = taken; faults = faults } in
+      record {
+        carried = from_stand tell r was now
+            (λ s fits.
+            let a = stand s was in (
+              a,
+              (λ serves. record {
+                phase = fits.phase;
+                known = fits.known;
+                lines = fits.lines;
+                power_ons = fits.power_ons;
+                lap = fits.lap;
+                offers = fits.offers;
+                armed = fits.armed;
+                spelled = fits.spelled;
+                holds = fits.holds;
+                bad = fits.bad;
+                explained = fits.explained;
+              }),
+              said was.machine r (tell was.machine was.blocks) a a (outside was) (outside now) was.disk text refl refl (moves_on a a (outside was) (outside now) (omega arith) (omega arith) refl) (λ x whole. tells s x)
+                  fits.explained (armed_length a.armed was.disk.armed fits.armed) (subst (λ (phase : Phase). IsLeftIn was.machine phase a.view a.masks was.disk) (sym fits.phase) fits.holds) gives,
+            ));
+        leaves = record {
+          sits = λ serves. record {
+            tells = sits.tells;
+            size = sits.size;
+            power = sits.power;
+            runs = sits.runs;
+            same_lap = sits.same_lap;
+            laps = sits.laps;
+            falls = sits.falls;
+            counted = sits.counted;
+            settled = sits.settled;
+            synced = sits.synced;
+          };
+          no_fault = λ serves. refl;
+          disk_fault = λ is. absurd (gives_no_disk_fault r _ _ _ gives is);
+          later = later;
+          write_fault = λ is. on_err_at r _ _ cause is;
+          machine = refl;
+          blocks = λ lap index. refl;
+        };
+        reads_nothing = λ is. gives_no_read_fault r _ _ _ gives is;
+      }
 
   -- a comment
   pub comment_out : (line : Option Item) (item : Item) → Some item ≡ line → item ≡ Item.Skip → CarriesOut (λ M B. built_line M B line) (Ok tt) was was
   comment_out line item says is =
       from_stand (λ M B. built_line M B line) (Ok tt) was was
-      (λ s clear. (
+      (λ s fits. (
         stand s was,
-        (λ serves. stand_fits s was clear),
+        (λ serves. fits),
         goes_here was.machine (built_line was.machine was.blocks line) (stand s was) (outside was)
             (λ x. ap (λ l. built_line was.machine was.blocks l (at (stand s was) x)) (sym (ap (λ (i : Item). Some i) (sym is) ∙ says)) ∙ skip_is was.machine was.blocks (at (stand s was) x)),
       ))
@@ -56,9 +116,9 @@ module _ {V : Type 0} (was : Moment V) where
   pub no_item : (line : Option Item) → None ≡ line → CarriesOut (λ M B. built_line M B line) (Err Halt.ScriptFault) was was
   no_item line says =
       from_stand (λ M B. built_line M B line) (Err Halt.ScriptFault) was was
-      (λ s clear. (
+      (λ s fits. (
         stand s was,
-        (λ serves. stand_fits s was clear),
+        (λ serves. fits),
         stops_here was.machine (built_line was.machine was.blocks line) (stand s was) (outside was) (λ x. ap (λ l. built_line was.machine was.blocks l (at (stand s was) x)) (sym says)),
       ))
 

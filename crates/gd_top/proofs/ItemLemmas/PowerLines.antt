@@ -1,72 +1,127 @@
--- The lines `on` and `off`, and lines that have no place with the power as it is.
-use Rattle.std.proofs.Common.{◌≡◌, ◌∙◌, ap, sym, refl, ℕ, ◌+◌, ◌<◌, ◌≤◌, nat_le, Bool, true, false, [], arith, if◌then◌else◌, codes}
-use Rattle.std.proofs.lemmas.Bool.Decides.{nat_tests}
+-- The lines `on`, `off` and `alter`, what a lock tells, and lines that have no place with the power as it is.
+use Rattle.std.proofs.Common.{◌≡◌, ◌∙◌, ap, sym, refl, ℕ, ◌+◌, nat_le, Bool, true, false, [], ◌∷◌, ◌++◌, length, if◌then◌else◌, codes}
 use Rattle.gd_base.specs.declared.device.Device.{Device}
 use Rattle.gd_base.specs.declared.event.Event.{Event}
 use Rattle.gd_base.specs.declared.step.What.{What}
 use Rattle.gd_base.specs.Judging.Machine.{Machine, Blocks}
+use Rattle.gd_disk.specs.declared.disk.ArmedCut.{ArmedCut}
+use Rattle.gd_disk.specs.declared.side.Side.{Side}
 use Rattle.gd_script.specs.declared.item.Item.{Item}
+use Rattle.gd_store.specs.Masks.{Mask}
 use Rattle.gd_top.specs.Code.Standing.{Standing, Later, at}
 use Rattle.gd_top.specs.Run.Items.{item_meaning}
 use Rattle.gd_top.specs.Run.Openings.{power_on, Done}
-use Rattle.gd_top.specs.Script.Built.{is_built, is_comment}
-use Rattle.gd_top.specs.Run.State.{Nothing, Stops, prints, ends}
+use Rattle.gd_top.specs.Report.Lines.{altered_line, locked_line}
+use Rattle.gd_top.specs.Script.Built.{is_built, is_comment, is_cut, needs_memory}
+use Rattle.gd_top.specs.Run.State.{Nothing, Off, Stops, prints, ends}
 use Rattle.gd_top.specs.declared.memory.TheConstants.{MOST_POWER_ONS}
-use Rattle.gd_top.proofs.RunLemmas.Equations.{on_is, off_is}
-use Rattle.gd_top.proofs.RunLemmas.Standings.{open_stand, closed_stand}
+use Rattle.gd_top.proofs.RunLemmas.Equations.{on_is, off_is, cut_is, alter_is, clear_is}
+use Rattle.gd_top.proofs.RunLemmas.Standings.{open_stand, closed_stand, locked_stand}
 
-room_for_one : (n : ℕ) → n < MOST_POWER_ONS → nat_le MOST_POWER_ONS (n + 0) ≡ false
-room_for_one n lt = grind (arith, nat_tests, lt)
-
-no_room_for_one : (n : ℕ) → MOST_POWER_ONS ≤ n → nat_le MOST_POWER_ONS (n + 0) ≡ true
-no_room_for_one n le = grind (arith, nat_tests, le)
-
-module _ {V : Type 0} (M : Machine V) (B : Blocks) where
+module _ {V : Type 0} (M : Machine V) (B : Blocks) (lap : ℕ) where
   -- a power-on that is allowed is the opening
-  pub on_opens : (v : V) (s : Standing V) (x : Later V) → s.power_ons < MOST_POWER_ONS → item_meaning M B Item.On (at (closed_stand v s) x) ≡ power_on M B Nothing Done (at (closed_stand v s) x)
-  on_opens v s x lt =
-      let u = at (closed_stand v s) x in
-      on_is M B u ∙ ap (λ (b : Bool). if b then ends Stops [] u else power_on M B Nothing Done u) (room_for_one s.power_ons lt)
+  pub on_opens : (s : Standing V) (x : Later V) → nat_le MOST_POWER_ONS (s.power_ons + length s.armed) ≡ false → item_meaning M B Item.On (at (closed_stand lap s) x) ≡ power_on M B Nothing Done (at (closed_stand lap s) x)
+  on_opens s x below =
+      let u = at (closed_stand lap s) x in
+      on_is M B u ∙ ap (λ (b : Bool). if b then ends Stops [] u else power_on M B Nothing Done u) below
 
-  -- beyond the last that is allowed it is a script fault
-  pub on_stops : (v : V) (s : Standing V) (x : Later V) → MOST_POWER_ONS ≤ s.power_ons → item_meaning M B Item.On (at (closed_stand v s) x) ≡ ends Stops [] (at (closed_stand v s) x)
-  on_stops v s x le =
-      let u = at (closed_stand v s) x in
-      on_is M B u ∙ ap (λ (b : Bool). if b then ends Stops [] u else power_on M B Nothing Done u) (no_room_for_one s.power_ons le)
+  -- at the limit it is a script fault
+  pub on_stops : (s : Standing V) (x : Later V) → nat_le MOST_POWER_ONS (s.power_ons + length s.armed) ≡ true → item_meaning M B Item.On (at (closed_stand lap s) x) ≡ ends Stops [] (at (closed_stand lap s) x)
+  on_stops s x limit =
+      let u = at (closed_stand lap s) x in
+      on_is M B u ∙ ap (λ (b : Bool). if b then ends Stops [] u else power_on M B Nothing Done u) limit
 
-  pub off_tells : (v w : V) (s : Standing V) (x : Later V) → w ≡ v → item_meaning M B Item.Off (at (open_stand v s) x) ≡ prints (codes "off\n") (at (closed_stand w s) x)
-  off_tells v w s x is = off_is M B (at (open_stand v s) x) ∙ ap (λ (u : V). prints (codes "off\n") (at (closed_stand u s) x)) (sym is)
+  -- one cut more, in any phase
+  abbrev pub armed_after : ArmedCut → Standing V → Standing V
+  armed_after cut s = record s { armed = s.armed ++ cut ∷ [] }
+
+  pub cut_tells : (cut : ArmedCut) (s : Standing V) (x : Later V) → nat_le MOST_POWER_ONS (s.power_ons + length s.armed) ≡ false
+      → item_meaning M B (Item.Cut cut.unit cut.count cut.torn) (at s x) ≡ prints (codes "armed\n") (at (armed_after cut s) x)
+  cut_tells cut s x below =
+      let u = at s x in
+      cut_is M B cut.unit cut.count cut.torn u ∙ ap (λ (b : Bool). if b then ends Stops [] u else prints (codes "armed\n") (at (armed_after cut s) x)) below
+
+  pub cut_stops : (cut : ArmedCut) (s : Standing V) (x : Later V) → nat_le MOST_POWER_ONS (s.power_ons + length s.armed) ≡ true
+      → item_meaning M B (Item.Cut cut.unit cut.count cut.torn) (at s x) ≡ ends Stops [] (at s x)
+  cut_stops cut s x limit =
+      let u = at s x in
+      cut_is M B cut.unit cut.count cut.torn u ∙ ap (λ (b : Bool). if b then ends Stops [] u else prints (codes "armed\n") (at (armed_after cut s) x)) limit
+
+  -- the power is off, with the view that was open, and nothing altered
+  abbrev pub off_after : V → Standing V → Standing V
+  off_after v s = record s { view = v; phase = Off; lap = lap; masks = [] }
+
+  pub off_tells : (v w : V) (s : Standing V) (x : Later V) → w ≡ v → item_meaning M B Item.Off (at (open_stand v lap s) x) ≡ prints (codes "off\n") (at (off_after w s) x)
+  off_tells v w s x is = off_is M B (at (open_stand v lap s) x) ∙ ap (λ (u : V). prints (codes "off\n") (at (off_after u s) x)) (sym is)
+
+  -- one alteration more
+  abbrev pub altered_after : Mask → Standing V → Standing V
+  altered_after m s = record s { phase = Off; lap = lap; masks = m ∷ s.masks }
+
+  pub alter_tells : (m : Mask) (s : Standing V) (x : Later V) → item_meaning M B (Item.Alter m.side m.place m.mask) (at (closed_stand lap s) x) ≡ prints (altered_line m.side m.place) (at (altered_after m s) x)
+  alter_tells m s x = alter_is M B m.side m.place m.mask (at (closed_stand lap s) x)
+
+  -- over a locked memory a line about the machine tells that
+  pub lock_tells : (item : Item) → needs_memory item ≡ true → (s : Standing V) (x : Later V) → item_meaning M B item (at (locked_stand lap s) x) ≡ prints locked_line (at (locked_stand lap s) x)
+  unfolding item_meaning
+  lock_tells (Item.Event event) needs s x = refl
+  lock_tells (Item.OrderEvent kind order) needs s x = refl
+  lock_tells (Item.Again device) needs s x = refl
+  lock_tells (Item.As number event) needs s x = refl
+  lock_tells Item.Off needs s x = absurd (cc needs)
+  lock_tells Item.On needs s x = absurd (cc needs)
+  lock_tells (Item.Cut unit count torn) needs s x = absurd (cc needs)
+  lock_tells (Item.Alter side at mask) needs s x = absurd (cc needs)
+  lock_tells Item.Clear needs s x = absurd (cc needs)
+  lock_tells (Item.Show what) needs s x = refl
+  lock_tells Item.Skip needs s x = absurd (cc needs)
 
   -- ================ lines that have no place
 
-  -- of the items that are built, `on` alone
+  -- of the items that are built, `on` and `alter`
   pub no_place_on : (item : Item) → is_built item ≡ true → ((event : Event) → item ≡ Item.Event event → ⊥) → ((device : Device) → item ≡ Item.Again device → ⊥)
-      → ((number : ℕ) (event : Event) → item ≡ Item.As number event → ⊥) → (item ≡ Item.Off → ⊥) → ((what : What) → item ≡ Item.Show what → ⊥) → is_comment item ≡ false
-      → (v : V) (s : Standing V) (x : Later V) → item_meaning M B item (at (open_stand v s) x) ≡ ends Stops [] (at (open_stand v s) x)
-  no_place_on Item.On built event again under off show skip v s x = on_is M B (at (open_stand v s) x)
-  no_place_on (Item.Event e) built event again under off show skip v s x = absurd (event e refl)
-  no_place_on (Item.OrderEvent kind order) built event again under off show skip v s x = absurd (cc built)
-  no_place_on (Item.Again device) built event again under off show skip v s x = absurd (again device refl)
-  no_place_on (Item.As number e) built event again under off show skip v s x = absurd (under number e refl)
-  no_place_on Item.Off built event again under off show skip v s x = absurd (off refl)
-  no_place_on (Item.Cut unit count torn) built event again under off show skip v s x = absurd (cc built)
-  no_place_on (Item.Alter side at mask) built event again under off show skip v s x = absurd (cc built)
-  no_place_on Item.Clear built event again under off show skip v s x = absurd (cc built)
-  no_place_on (Item.Show what) built event again under off show skip v s x = absurd (show what refl)
-  no_place_on Item.Skip built event again under off show skip v s x = absurd (cc skip)
+      → ((number : ℕ) (event : Event) → item ≡ Item.As number event → ⊥) → (item ≡ Item.Off → ⊥) → ((what : What) → item ≡ Item.Show what → ⊥) → is_comment item ≡ false → is_cut item ≡ false
+      → (v : V) (s : Standing V) (x : Later V) → item_meaning M B item (at (open_stand v lap s) x) ≡ ends Stops [] (at (open_stand v lap s) x)
+  no_place_on Item.On built event again under off show skip cut v s x = on_is M B (at (open_stand v lap s) x)
+  no_place_on (Item.Event e) built event again under off show skip cut v s x = absurd (event e refl)
+  no_place_on (Item.OrderEvent kind order) built event again under off show skip cut v s x = absurd (cc built)
+  no_place_on (Item.Again device) built event again under off show skip cut v s x = absurd (again device refl)
+  no_place_on (Item.As number e) built event again under off show skip cut v s x = absurd (under number e refl)
+  no_place_on Item.Off built event again under off show skip cut v s x = absurd (off refl)
+  no_place_on (Item.Cut unit count torn) built event again under off show skip cut v s x = absurd (cc cut)
+  no_place_on (Item.Alter side at mask) built event again under off show skip cut v s x = alter_is M B side at mask _
+  no_place_on Item.Clear built event again under off show skip cut v s x = clear_is M B _
+  no_place_on (Item.Show what) built event again under off show skip cut v s x = absurd (show what refl)
+  no_place_on Item.Skip built event again under off show skip cut v s x = absurd (cc skip)
 
-  -- all but `on` and comments
-  pub no_place_off : (item : Item) → is_built item ≡ true → (item ≡ Item.On → ⊥) → is_comment item ≡ false
-      → (v : V) (s : Standing V) (x : Later V) → item_meaning M B item (at (closed_stand v s) x) ≡ ends Stops [] (at (closed_stand v s) x)
+  -- all but `on`, `alter` and comments
+  pub no_place_off : (item : Item) → is_built item ≡ true → (item ≡ Item.On → ⊥) → ((side : Side) (at mask : ℕ) → item ≡ Item.Alter side at mask → ⊥) → is_comment item ≡ false → is_cut item ≡ false
+      → (s : Standing V) (x : Later V) → item_meaning M B item (at (closed_stand lap s) x) ≡ ends Stops [] (at (closed_stand lap s) x)
   unfolding item_meaning
-  no_place_off (Item.Event event) built on skip v s x = refl
-  no_place_off (Item.OrderEvent kind order) built on skip v s x = refl
-  no_place_off (Item.Again device) built on skip v s x = refl
-  no_place_off (Item.As number event) built on skip v s x = refl
-  no_place_off Item.Off built on skip v s x = refl
-  no_place_off Item.On built on skip v s x = absurd (on refl)
-  no_place_off (Item.Cut unit count torn) built on skip v s x = absurd (cc built)
-  no_place_off (Item.Alter side at mask) built on skip v s x = absurd (cc built)
-  no_place_off Item.Clear built on skip v s x = refl
-  no_place_off (Item.Show what) built on skip v s x = refl
-  no_place_off Item.Skip built on skip v s x = absurd (cc skip)
+  no_place_off (Item.Event event) built on alter skip cut s x = refl
+  no_place_off (Item.OrderEvent kind order) built on alter skip cut s x = refl
+  no_place_off (Item.Again device) built on alter skip cut s x = refl
+  no_place_off (Item.As number event) built on alter skip cut s x = refl
+  no_place_off Item.Off built on alter skip cut s x = refl
+  no_place_off Item.On built on alter skip cut s x = absurd (on refl)
+  no_place_off (Item.Cut unit count torn) built on alter skip cut s x = absurd (cc cut)
+  no_place_off (Item.Alter side at mask) built on alter skip cut s x = absurd (alter side at mask refl)
+  no_place_off Item.Clear built on alter skip cut s x = refl
+  no_place_off (Item.Show what) built on alter skip cut s x = refl
+  no_place_off Item.Skip built on alter skip cut s x = absurd (cc skip)
+
+  -- over a locked memory: `on`, `off` and `alter`
+  pub no_place_locked : (item : Item) → is_built item ≡ true → needs_memory item ≡ false → (item ≡ Item.Clear → ⊥) → is_comment item ≡ false → is_cut item ≡ false
+      → (s : Standing V) (x : Later V) → item_meaning M B item (at (locked_stand lap s) x) ≡ ends Stops [] (at (locked_stand lap s) x)
+  unfolding item_meaning
+  no_place_locked (Item.Event event) built needs clear skip cut s x = absurd (cc needs)
+  no_place_locked (Item.OrderEvent kind order) built needs clear skip cut s x = absurd (cc needs)
+  no_place_locked (Item.Again device) built needs clear skip cut s x = absurd (cc needs)
+  no_place_locked (Item.As number event) built needs clear skip cut s x = absurd (cc needs)
+  no_place_locked Item.Off built needs clear skip cut s x = refl
+  no_place_locked Item.On built needs clear skip cut s x = refl
+  no_place_locked (Item.Cut unit count torn) built needs clear skip cut s x = absurd (cc cut)
+  no_place_locked (Item.Alter side at mask) built needs clear skip cut s x = refl
+  no_place_locked Item.Clear built needs clear skip cut s x = absurd (clear refl)
+  no_place_locked (Item.Show what) built needs clear skip cut s x = absurd (cc needs)
+  no_place_locked Item.Skip built needs clear skip cut s x = absurd (cc skip)

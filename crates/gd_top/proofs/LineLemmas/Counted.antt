@@ -6,11 +6,11 @@ use Rattle.gd_base.specs.Outside.Causes.{AppendsFront}
 use Rattle.gd_base.specs.Judging.Machine.{Machine, Blocks}
 use Rattle.gd_disk.specs.Disk.{DiskState}
 use Rattle.gd_script.specs.declared.item.Item.{Item}
-use Rattle.gd_top.specs.Claims.MemoryLeft.{IsLeftBy, IsLeftIn}
+use Rattle.gd_top.specs.Claims.MemoryLeft.{IsLeftBy}
 use Rattle.gd_top.specs.Code.Parts.{Outside, Carries, CarriesBy}
 use Rattle.gd_top.specs.Code.Standing.{Standing, at, only}
 use Rattle.gd_top.specs.Run.Items.{item_meaning, line_meaning, one_more}
-use Rattle.gd_top.specs.Run.State.{State, Part, Phase, On, Off, Locked, Outcome, Goes, Stops, Differs, Breaks, ends, goes_on, followed_by}
+use Rattle.gd_top.specs.Run.State.{State, Part, Outcome, Goes, Stops, Differs, Breaks, ends, goes_on, followed_by}
 use Rattle.gd_top.specs.Script.Built.{built_line}
 use Rattle.gd_top.specs.declared.halt.Halt.{Halt}
 use Rattle.gd_top.specs.declared.script.reader.TheConstants.{MOST_LINES}
@@ -58,13 +58,8 @@ module _ {V : Type 0} (M : Machine V) where
   still_armed Differs t n h = h
   still_armed Breaks t n h = h
 
-  more_lines : (p : Phase) (s : State V) (n : ℕ) (disk : DiskState) → IsLeftIn M p s disk → IsLeftIn M p (record s { lines = n }) disk
-  more_lines On s n disk h = h
-  more_lines Off s n disk h = h
-  more_lines Locked s n disk h = h
-
   still_left : (o : Outcome) (t : Part V) (disk : DiskState) → t.outcome ≡ o → IsLeftBy M o t.state disk → (let u = goes_on o t one_more in IsLeftBy M u.outcome u.state disk)
-  still_left Goes t disk is h = more_lines t.state.phase t.state (t.state.lines + 1) disk h
+  still_left Goes t disk is h = h
   still_left Stops t disk is h = subst (λ (o : Outcome). IsLeftBy M o t.state disk) (sym is) h
   still_left Differs t disk is h = absurd h
   still_left Breaks t disk is h = subst (λ (o : Outcome). IsLeftBy M o t.state disk) (sym is) h

@@ -8,14 +8,14 @@ use Rattle.gd_top.specs.Code.Parts.{CarriesBy}
 use Rattle.gd_top.specs.Code.Standing.{Standing}
 use Rattle.gd_top.specs.Run.Items.{line_meaning, lines_meaning}
 use Rattle.gd_top.specs.Script.Built.{built_line}
-use Rattle.gd_top.specs.Script.LineTaken.{TakesLine}
+use Rattle.gd_top.specs.Script.LineTaken.{TakesEnd, TakesLine}
 use Rattle.gd_top.specs.Script.Lines.{HasNoEnd, line_of}
 use Rattle.gd_top.specs.declared.halt.Halt.{Halt}
-use Rattle.gd_top.specs.declared.memory.Counts.{Counts}
 use Rattle.gd_top.specs.declared.script.reader.TheConstants.{MOST_LINES}
 use Rattle.gd_top.proofs.LineLemmas.Alike.{alike_by}
 use Rattle.gd_top.proofs.LineLemmas.Counted.{after_line, counted_line}
 use Rattle.gd_top.proofs.LineLemmas.Exits.{line_ends, lines_on}
+use Rattle.gd_top.proofs.RunLemmas.Said.{err_is}
 
 pub went_on : (r : Result (Unit {0}) Halt) → is_err r ≡ false → r ≡ Ok tt
 went_on (Ok done) e = refl
@@ -72,7 +72,7 @@ module _ {V : Type 0} where
       let lines : t.lines < MOST_LINES = subst (λ (n : ℕ). n < MOST_LINES) (sym k.1.lines) few in
       let by = step was mid next (Ok tt) line bytes t u leaves lines is q.2 in (
         record u { lines = u.lines + 1 },
-        record { view = f.view; phase = f.phase; lines = ap (λ (n : ℕ). n + 1) f.lines; power_ons = f.power_ons; lap = f.lap; armed = f.armed; unmasked = f.unmasked; explained = f.explained },
+        record { phase = f.phase; known = f.known; lines = ap (λ (n : ℕ). n + 1) f.lines; power_ons = f.power_ons; lap = f.lap; offers = f.offers; armed = f.armed; spelled = f.spelled; holds = f.holds; bad = f.bad; explained = f.explained },
         lines_on was.machine was.blocks s t (record u { lines = u.lines + 1 }) (outside was) (outside mid) (outside next) next.disk left ahead later line no_end k.2 taken by,
       )
 
@@ -88,10 +88,32 @@ module _ {V : Type 0} where
     blocks = λ lap index. q.blocks lap index ∙ p.blocks lap index;
   }
 
-  -- counts are no part of it
-  pub recounted : (a b : Moment V) (r : Result (Unit {0}) Halt) (k : Counts) → Leaves r a b → Leaves r a (record b { counts = k })
-  recounted a b r k p = record {
-    sits = λ serves. let s = p.sits serves in record { size = s.size; power = s.power; unlocked = s.unlocked; runs = s.runs; first_lap = s.first_lap; no_cut = s.no_cut; both = s.both; settled = s.settled };
+  -- neither the disk nor the sink failed
+  pub leaves_as : (a b : Moment V) (r : Result (Unit {0}) Halt) → (r ≡ Err Halt.DiskFault → ⊥) → (r ≡ Err Halt.WriteFault → ⊥) → Leaves (Ok tt) a b → Leaves r a b
+  leaves_as a b r disk write p = record {
+    sits = λ serves. p.sits tt;
+    no_fault = λ serves. p.no_fault tt;
+    disk_fault = λ is. absurd (disk is);
+    later = p.later;
+    write_fault = λ is. absurd (write is);
+    machine = p.machine;
+    blocks = p.blocks;
+  }
+
+  pub leaves_at_line : (a b : Moment V) (h : Halt) (old new : Option (List ℕ)) (line : List ℕ) → TakesLine old new line (Err h) → Leaves (Ok tt) a b → Leaves (Err h) a b
+  leaves_at_line a b h old new line taken p =
+      leaves_as a b (Err h) (λ is. subst (λ (k : Halt). TakesLine old new line (Err k)) (err_is h Halt.DiskFault is) taken) (λ is. subst (λ (k : Halt). TakesLine old new line (Err k)) (err_is h Halt.WriteFault is) taken) p
+
+  pub leaves_at_end : (a b : Moment V) (r : Result (Unit {0}) Halt) (old new : Option (List ℕ)) → TakesEnd old new r → Leaves (Ok tt) a b → Leaves r a b
+  leaves_at_end a b r old new taken p =
+      leaves_as a b r (λ is. subst (λ (q : Result (Unit {0}) Halt). TakesEnd old new q) is taken) (λ is. subst (λ (q : Result (Unit {0}) Halt). TakesEnd old new q) is taken) p
+
+  -- the count of lines is no part of it
+  pub recounted : (a b : Moment V) (r : Result (Unit {0}) Halt) (n : ℕ) → Leaves r a b → Leaves r a (record b { counts = record b.counts { lines = n } })
+  recounted a b r n p = record {
+    sits = λ serves.
+        let s = p.sits serves in
+        record { tells = s.tells; size = s.size; power = s.power; runs = s.runs; same_lap = s.same_lap; laps = s.laps; falls = s.falls; counted = record { calls = s.counted.calls; waiting = s.counted.waiting; room = s.counted.room }; settled = s.settled; synced = s.synced };
     no_fault = p.no_fault;
     disk_fault = p.disk_fault;
     later = p.later;

@@ -1,5 +1,5 @@
 -- One equation for each case of the definitions that stay shut.
-use Rattle.std.proofs.Common.{◌≡◌, ℕ, ◌+◌, Bool, true, if◌then◌else◌, List, [], ◌∷◌, ◌++◌, refl, ap}
+use Rattle.std.proofs.Common.{◌≡◌, ℕ, ◌+◌, Bool, if◌then◌else◌, List, [], ◌∷◌, ◌++◌, refl, ap}
 use Rattle.std.specs.Prelude.{codes}
 use Rattle.std.specs.declared.option.Option.{Option}
 use Rattle.gd_base.specs.declared.device.Device.{Device}
@@ -126,6 +126,6 @@ opened_is M B again repair wanted s full e =
     ap (λ (b : Bool). if b then (let o = offer (syncs_of_repair repair) s in opened_full M B again wanted o.fate o.state)
     else (let o = offer (syncs_of_repair repair + syncs_of_event) s in started M B again repair wanted o.fate o.state)) e
 
-pub resolved_nothing : {V : Type 0} (M : Machine V) (v : V) (s : State V) → M.same v s.view ≡ true → resolved M Nothing v s ≡ s
+pub resolved_nothing : {V : Type 0} (M : Machine V) (v : V) (s : State V) → resolved M Nothing v s ≡ (if M.same v s.view then s else unexplained v s)
 unfolding resolved
-resolved_nothing M v s same = ap (λ (b : Bool). if b then s else unexplained v s) same
+resolved_nothing M v s = refl

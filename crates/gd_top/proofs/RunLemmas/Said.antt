@@ -3,6 +3,7 @@ use Rattle.std.proofs.Common.{◌≡◌, ◌∙◌, ap, sym, subst, refl, ℕ, �
 use Rattle.std.proofs.KnownBytes.{Appends-nil}
 use Rattle.std.specs.Io.KnownBytes.{Appends}
 use Rattle.gd_base.specs.Judging.Machine.{Machine}
+use Rattle.gd_base.specs.Outside.Causes.{AppendsFront}
 use Rattle.gd_disk.specs.Disk.{DiskState}
 use Rattle.gd_top.specs.Claims.MemoryLeft.{IsLeftIn}
 use Rattle.gd_top.specs.Code.Parts.{Outside, Moves, Pending, Carries, CarriesBy, FoundSince, Ending, Broken, Unwritten, GivesText}
@@ -24,8 +25,26 @@ ends_nowhere n m le = refl
 pub gives_no_disk_fault : (r : Result (Unit {0}) Halt) (u v : Option (List ℕ)) (text : List ℕ) → GivesText r u v text → r ≡ Err Halt.DiskFault → ⊥
 gives_no_disk_fault r u v text gives is = subst (λ (q : Result (Unit {0}) Halt). GivesText q u v text) is gives
 
+pub gives_no_read_fault : (r : Result (Unit {0}) Halt) (u v : Option (List ℕ)) (text : List ℕ) → GivesText r u v text → r ≡ Err Halt.ReadFault → ⊥
+gives_no_read_fault r u v text gives is = subst (λ (q : Result (Unit {0}) Halt). GivesText q u v text) is gives
+
+-- a text that was not given whole, and one that was
+pub unwritten_of : (r : Result (Unit {0}) Halt) (u v : Option (List ℕ)) (text : List ℕ) → is_err r ≡ true → GivesText r u v text → (r ≡ Err Halt.WriteFault) × AppendsFront u v text
+unwritten_of (Ok done) u v text e gives = absurd (cc e)
+unwritten_of (Err Halt.ScriptFault) u v text e gives = absurd gives
+unwritten_of (Err Halt.ReadFault) u v text e gives = absurd gives
+unwritten_of (Err Halt.DiskFault) u v text e gives = absurd gives
+unwritten_of (Err Halt.WriteFault) u v text e gives = (refl, gives)
+
+pub written_of : (r : Result (Unit {0}) Halt) (u v : Option (List ℕ)) (text : List ℕ) → is_err r ≡ false → GivesText r u v text → Appends u v text
+written_of (Ok done) u v text e gives = gives
+written_of (Err halt) u v text e gives = absurd (cc e)
+
 pub on_err_at : (r : Result (Unit {0}) Halt) (h : Halt) (P : Type 0) → OnErr r P → r ≡ Err h → P
 on_err_at r h P p is = subst (λ (q : Result (Unit {0}) Halt). OnErr q P) is p
+
+pub err_is : {T : Type 0} (h k : Halt) → (let r : Result T Halt = Err h in r) ≡ Err k → h ≡ k
+err_is h k e = cc e
 
 -- a result that was tested
 pub err_of : {T E : Type 0} (r : Result T E) (P : Type 0) → is_err r ≡ true → OnErr r P → P
@@ -72,16 +91,25 @@ module _ {V : Type 0} (M : Machine V) where
     tells = λ x whole rise. tells x whole ∙ nothing_behind text (at b x) o;
   }
 
-  -- a text was given, or a front of it
-  pub said : (r : Result (Unit {0}) Halt) (tell : State V → Part V) (a b : Standing V) (u v : Outside) (disk : DiskState) (text : List ℕ) → v.found ≡ u.found → v.falls ≡ u.falls → Moves a b u v []
-      → ((x : Later V) → EndsInNone x.broken_at b.offers → tell (at a x) ≡ prints text (at b x))
-      → (b.forged ≡ 0 → (b.other_views ≡ 0) × (b.other_locks ≡ 0)) → length disk.armed ≡ length b.armed → IsLeftIn M b.phase (at b (only [] [] None)) disk
+  -- a text was given, or a front of it, in an offer, which is whole where no later fall has its number
+  pub said_whole : (r : Result (Unit {0}) Halt) (tell : State V → Part V) (a b : Standing V) (u v : Outside) (disk : DiskState) (text : List ℕ) → v.found ≡ u.found → v.falls ≡ u.falls → Moves a b u v []
+      → ((x : Later V) → EndsInNone x.broken_at b.offers → Rise b.offers x.falls → tell (at a x) ≡ prints text (at b x))
+      → (b.forged ≡ 0 → (b.other_views ≡ 0) × (b.other_locks ≡ 0)) → length disk.armed ≡ length b.armed → IsLeftIn M b.phase b.view b.masks disk
       → GivesText r u.taken v.taken text → CarriesBy r M tell a b u v disk
-  said (Ok done) tell a b u v disk text found falls moves tells clear armed left gives = carries_text tell Goes a b u v text found falls moves tells gives
-  said (Err Halt.ScriptFault) tell a b u v disk text found falls moves tells clear armed left gives = absurd gives
-  said (Err Halt.ReadFault) tell a b u v disk text found falls moves tells clear armed left gives = absurd gives
-  said (Err Halt.DiskFault) tell a b u v disk text found falls moves tells clear armed left gives = absurd gives
-  said (Err Halt.WriteFault) tell a b u v disk text found falls moves tells clear armed left gives = record {
+  said_whole (Ok done) tell a b u v disk text found falls moves tells clear armed left gives = record {
+    since = [];
+    listed = found ∙ sym (append-nil u.found);
+    fell = [];
+    fallen = falls ∙ sym (append-nil u.falls);
+    report = text;
+    printed = gives;
+    moves = moves;
+    tells = λ x whole rise. tells x whole rise ∙ nothing_behind text (at b x) Goes;
+  }
+  said_whole (Err Halt.ScriptFault) tell a b u v disk text found falls moves tells clear armed left gives = absurd gives
+  said_whole (Err Halt.ReadFault) tell a b u v disk text found falls moves tells clear armed left gives = absurd gives
+  said_whole (Err Halt.DiskFault) tell a b u v disk text found falls moves tells clear armed left gives = absurd gives
+  said_whole (Err Halt.WriteFault) tell a b u v disk text found falls moves tells clear armed left gives = record {
     ending = record {
       found = found_none u.found v.found found;
       fell = [];
@@ -90,7 +118,7 @@ module _ {V : Type 0} (M : Machine V) where
       broken_at = None;
       late = ends_nowhere a.offers;
       end = prints text (at b (only [] [] None));
-      tells = tells (only [] [] None) (ends_nowhere b.offers);
+      tells = tells (only [] [] None) (ends_nowhere b.offers) tt;
       used_up = (refl, refl);
       explained = clear;
     };
@@ -98,6 +126,13 @@ module _ {V : Type 0} (M : Machine V) where
     armed = armed;
     left = left;
   }
+
+  -- and in no offer
+  pub said : (r : Result (Unit {0}) Halt) (tell : State V → Part V) (a b : Standing V) (u v : Outside) (disk : DiskState) (text : List ℕ) → v.found ≡ u.found → v.falls ≡ u.falls → Moves a b u v []
+      → ((x : Later V) → EndsInNone x.broken_at b.offers → tell (at a x) ≡ prints text (at b x))
+      → (b.forged ≡ 0 → (b.other_views ≡ 0) × (b.other_locks ≡ 0)) → length disk.armed ≡ length b.armed → IsLeftIn M b.phase b.view b.masks disk
+      → GivesText r u.taken v.taken text → CarriesBy r M tell a b u v disk
+  said r tell a b u v disk text found falls moves tells clear armed left gives = said_whole r tell a b u v disk text found falls moves (λ x whole rise. tells x whole) clear armed left gives
 
   -- a script fault
   pub stops_here : (tell : State V → Part V) (a : Standing V) (u : Outside) → ((x : Later V) → tell (at a x) ≡ ends Stops [] (at a x)) → Carries M tell Stops a a u u
@@ -119,6 +154,19 @@ module _ {V : Type 0} (M : Machine V) where
     printed = p.printed;
     moves = p.moves;
     tells = λ x whole rise. same (finds (starts_in M p.since) p.fell x) ∙ p.tells x whole rise;
+  }
+
+  -- and what is still to be told
+  pub pending_rest : (f h k : State V → Part V) (a b : Standing V) (u v : Outside) → ((x : Later V) → h (at b x) ≡ k (at b x)) → Pending M f h a b u v → Pending M f k a b u v
+  pending_rest f h k a b u v same p = record {
+    since = p.since;
+    listed = p.listed;
+    fell = p.fell;
+    fallen = p.fallen;
+    report = p.report;
+    printed = p.printed;
+    moves = p.moves;
+    tells = λ x whole rise. p.tells x whole rise ∙ ap (before p.report) (same x);
   }
 
   abbrev pub ending_at : (f g : State V → Part V) (a : Standing V) (u v : Outside) → ((x : Later V) → g (at a x) ≡ f (at a x)) → Ending M f a u v → Ending M g a u v

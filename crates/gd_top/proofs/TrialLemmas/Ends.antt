@@ -3,17 +3,9 @@ use Rattle.std.proofs.Common.{◌≡◌, ◌⊎◌, inl, inr, ◌∙◌, sym, re
 use Rattle.gd_base.specs.Outside.Causes.{Rose}
 use Rattle.gd_base.specs.Judging.Machine.{Machine, Blocks}
 use Rattle.gd_top.specs.Claims.Trial.{Outer, CabinetDone, HasCauses, TrialDone, status_after}
-use Rattle.gd_top.specs.Code.Memory.{memory_phase}
-use Rattle.gd_top.specs.Run.Life.{end_status}
-use Rattle.gd_top.specs.Run.State.{Phase}
+use Rattle.gd_top.specs.Run.State.{Phase, On, Off, Locked}
 use Rattle.gd_top.specs.declared.halt.Halt.{Halt}
-use Rattle.gd_top.specs.declared.memory.Memory.{Memory}
 use Rattle.gd_top.specs.declared.status.Status.{Status}
-
--- no memory is locked
-pub memory_ends : {C D W : Type 0} {g h i : _} (memory : Memory C D W g h i) → end_status (memory_phase memory) ≡ Status.Done
-memory_ends (Memory.On cabinet) = refl
-memory_ends (Memory.Off parts) = refl
 
 risen : (a b c : ℕ) → Rose a b → b ≤ c → Rose a c
 risen a b c h le = omega (arith, h, le)
@@ -26,21 +18,23 @@ module _ (status : Status) (was now : Outer) where
   uncaused s is a b d = record { read = λ e. absurd (a (sym is ∙ e)); write = λ e. absurd (b (sym is ∙ e)); disk = λ e. absurd (d (sym is ∙ e)) }
 
   -- each status has its cause
-  pub causes : (r : Result (Unit {0}) Halt) (phase : Phase) (faults : ℕ) → end_status phase ≡ Status.Done → (status ≡ status_after r phase) ⊎ ((status ≡ Status.WriteFault) × Rose faults now.write_faults)
+  pub causes : (r : Result (Unit {0}) Halt) (phase : Phase) (faults : ℕ) → (status ≡ status_after r phase) ⊎ ((status ≡ Status.WriteFault) × Rose faults now.write_faults)
       → was.write_faults ≤ faults → faults ≤ now.write_faults → (r ≡ Err Halt.ReadFault → Rose was.read_faults now.read_faults) → (r ≡ Err Halt.WriteFault → Rose was.write_faults faults)
       → (r ≡ Err Halt.DiskFault → Rose was.disk.faults now.disk.faults) → HasCauses status was now
-  causes r phase faults done (inr is) le later read write disk = record {
+  causes r phase faults (inr is) le later read write disk = record {
     read = λ e. absurd (cc (is.0, e));
     write = λ e. later_risen was.write_faults faults now.write_faults le is.1;
     disk = λ e. absurd (cc (is.0, e));
   }
-  causes (Ok u) phase faults done (inl is) le later read write disk = uncaused Status.Done (is ∙ done) (λ e. cc e) (λ e. cc e) (λ e. cc e)
-  causes (Err Halt.ScriptFault) phase faults done (inl is) le later read write disk = uncaused Status.ScriptFault is (λ e. cc e) (λ e. cc e) (λ e. cc e)
-  causes (Err Halt.ReadFault) phase faults done (inl is) le later read write disk =
+  causes (Ok u) On faults (inl is) le later read write disk = uncaused Status.Done is (λ e. cc e) (λ e. cc e) (λ e. cc e)
+  causes (Ok u) Off faults (inl is) le later read write disk = uncaused Status.Done is (λ e. cc e) (λ e. cc e) (λ e. cc e)
+  causes (Ok u) Locked faults (inl is) le later read write disk = uncaused Status.Locked is (λ e. cc e) (λ e. cc e) (λ e. cc e)
+  causes (Err Halt.ScriptFault) phase faults (inl is) le later read write disk = uncaused Status.ScriptFault is (λ e. cc e) (λ e. cc e) (λ e. cc e)
+  causes (Err Halt.ReadFault) phase faults (inl is) le later read write disk =
       record { read = λ e. read refl; write = λ e. absurd (cc (is, e)); disk = λ e. absurd (cc (is, e)) }
-  causes (Err Halt.DiskFault) phase faults done (inl is) le later read write disk =
+  causes (Err Halt.DiskFault) phase faults (inl is) le later read write disk =
       record { read = λ e. absurd (cc (is, e)); write = λ e. absurd (cc (is, e)); disk = λ e. disk refl }
-  causes (Err Halt.WriteFault) phase faults done (inl is) le later read write disk =
+  causes (Err Halt.WriteFault) phase faults (inl is) le later read write disk =
       record { read = λ e. absurd (cc (is, e)); write = λ e. risen was.write_faults faults now.write_faults (write refl) later; disk = λ e. absurd (cc (is, e)) }
 
 module _ {V : Type 0} (M : Machine V) (B : Blocks) (falls : List ℕ) (was now : Outer) where
@@ -48,6 +42,7 @@ module _ {V : Type 0} (M : Machine V) (B : Blocks) (falls : List ℕ) (was now :
   pub carried_done : (status : Status) → TrialDone M B status falls was now → CabinetDone M B true status falls was now
   carried_done Status.Done h = (refl, h)
   carried_done Status.ScriptFault h = (refl, h)
+  carried_done Status.Locked h = (refl, h)
   carried_done Status.ReadFault h = (refl, h)
   carried_done Status.DiskFault h = (refl, h)
   carried_done Status.WriteFault h = inr h

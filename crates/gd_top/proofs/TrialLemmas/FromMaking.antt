@@ -1,19 +1,26 @@
 -- The opening of a memory that was made, and then the lines.
-use Rattle.std.proofs.Common.{◌≡◌, ◌∙◌, ap, sym, subst, refl, ℕ, List, [], inl, inr, true, false, arith, Option, None, Some, Result, Ok, Err, is_err}
+use Rattle.std.proofs.Common.{◌≡◌, ◌∙◌, ap, sym, subst, refl, ℕ, ◌≤◌, List, [], length, map, ◌⊎◌, inl, inr, true, false, arith, Option, None, Some, Result, Ok, Err, is_err}
 use Rattle.gd_base.specs.Judging.Machine.{Machine, Blocks}
+use Rattle.gd_base.specs.Laws.TellsViews.{HasPayload}
+use Rattle.gd_cabinet.specs.Shown.{IsInBoth}
+use Rattle.gd_disk.specs.CutRuns.{FirstComes, IsCutOff, IsFaulted}
 use Rattle.gd_disk.specs.Disk.{DiskState}
+use Rattle.gd_disk.specs.Runs.{CutsLeft}
+use Rattle.gd_disk.specs.declared.disk.ArmedCut.{ArmedCut}
 use Rattle.gd_script.specs.declared.item.Item.{Item}
 use Rattle.gd_top.specs.Code.LinesDone.{DoneBy, LinesDone, RunBy, RunDone, ScriptOf, made_outside}
-use Rattle.gd_top.specs.Code.Memory.{Moment, Fits, IsMade, Leaves, CarriesOut, outside}
-use Rattle.gd_top.specs.Code.Parts.{Outside, Carries, CarriesBy}
+use Rattle.gd_top.specs.Code.Falls.{AreCalls, AreWaiting, counts_calls}
+use Rattle.gd_top.specs.Code.Memory.{Moment, FitsDown, IsDown, IsFresh, IsMade, IsUnmade, Leaves, OpensTo, Reopens, Serves, TellsApart, as_opened, begun, outside, stands_with}
+use Rattle.gd_top.specs.Code.Parts.{Outside, Carries, CarriesBy, Pending}
 use Rattle.gd_top.specs.Code.Standing.{Standing, at, first_standing}
 use Rattle.gd_top.specs.Run.Items.{lines_meaning}
 use Rattle.gd_top.specs.Run.Life.{run_meaning}
+use Rattle.gd_top.specs.Run.Offers.{syncs_of_making}
 use Rattle.gd_top.specs.Run.Openings.{Done, power_on}
-use Rattle.gd_top.specs.Run.State.{Off, is_powered, Nothing, Goes, Stops}
+use Rattle.gd_top.specs.Run.State.{Phase, On, Off, Locked, is_powered, Nothing, Goes, Stops}
 use Rattle.gd_top.specs.Script.Lines.{script_of, whole_lines}
 use Rattle.gd_top.specs.declared.halt.Halt.{Halt}
-use Rattle.gd_top.proofs.ItemLemmas.Images.{both_alike}
+use Rattle.gd_top.proofs.ItemLemmas.Images.{unmasked}
 use Rattle.gd_top.proofs.LineLemmas.Alike.{blocks_are}
 use Rattle.gd_top.proofs.RunLemmas.Joins.{goes_on_nothing}
 use Rattle.gd_top.proofs.RunLemmas.Parts.{pending_of, pending_then, broken_then}
@@ -72,6 +79,29 @@ pub any_script : (left : Option (List ℕ)) → ScriptOf left
 any_script None = record { script = []; of_source = tt }
 any_script (Some bytes) = record { script = bytes; of_source = refl }
 
+-- the memory stands after it, and nothing is still wanted
+pub stands_as : {V : Type 0} (M : Machine V) (B : Blocks) (phase : Phase) → is_powered phase ≡ true → (a b : Standing V) (u v : Outside)
+    → Pending M (power_on M B Nothing Done) (stands_with M B phase Done) a b u v → Carries M (power_on M B Nothing Done) Goes a b u v
+stands_as M B On powered a b u v h = h
+stands_as M B Off powered a b u v h = absurd (cc powered)
+stands_as M B Locked powered a b u v h = h
+
+-- an opening that ended the run
+stands_in_none : {V : Type 0} (r : Result (Unit {0}) Halt) (s : Standing V) (was now : Moment V) → is_err r ≡ true → OpensTo (as_opened r) Nothing Done s was now → Serves r → ⊥
+stands_in_none (Ok done) s was now err q serves = absurd (cc err)
+stands_in_none (Err Halt.ScriptFault) s was now err q serves = q
+stands_in_none (Err Halt.ReadFault) s was now err q serves = q
+stands_in_none (Err Halt.DiskFault) s was now err q serves = serves
+stands_in_none (Err Halt.WriteFault) s was now err q serves = serves
+
+ends_by : {V : Type 0} (r : Result (Unit {0}) Halt) (s t : Standing V) (was now : Moment V) → is_err r ≡ true → OpensTo (as_opened r) Nothing Done s was now
+    → CarriesBy r was.machine (power_on was.machine was.blocks Nothing Done) s t (outside was) (outside now) now.disk
+ends_by (Ok done) s t was now err q = absurd (cc err)
+ends_by (Err Halt.ScriptFault) s t was now err q = absurd q
+ends_by (Err Halt.ReadFault) s t was now err q = absurd q
+ends_by (Err Halt.DiskFault) s t was now err q = q
+ends_by (Err Halt.WriteFault) s t was now err q = q
+
 module _ {V : Type 0} (was made : Moment V) (machine : made.machine ≡ was.machine) (blocks : (lap index : ℕ) → made.blocks lap index ≡ was.blocks lap index) (is : outside made ≡ made_outside was) where
   -- the machine, the blocks and the outside are those from before the making
   from_before : (r : Result (Unit {0}) Halt) (t : Standing V) (w : Outside) (disk : DiskState) (left rest : Option (List ℕ))
@@ -81,37 +111,137 @@ module _ {V : Type 0} (was made : Moment V) (machine : made.machine ≡ was.mach
       (subst (λ (D : Blocks). RunBy was.machine D r (first_standing was.machine) t (outside made) w disk left rest) (blocks_are made.blocks was.blocks blocks)
       (subst (λ (O : Machine V). RunBy O made.blocks r (first_standing O) t (outside made) w disk left rest) machine h))
 
-  module _ (fits : Fits (first_standing made.machine) made) (left rest : Option (List ℕ)) where
-    pub run_ends : (r : Result (Unit {0}) Halt) (now : Moment V) → CarriesOut (λ M B. power_on M B Nothing Done) r made now → is_err r ≡ true → (r ≡ Err Halt.ScriptFault → ⊥) → RunDone r was now left rest
-    run_ends r now out err not_stop =
-        let q = out (first_standing made.machine) fits in
-        inr (q.0, q.1, from_before r q.0 (outside now) now.disk left rest (opening_ends made.machine made.blocks r (first_standing made.machine) q.0 (outside made) (outside now) now.disk left rest (any_script left) err not_stop q.2))
+  module _ (fits : FitsDown Nothing (first_standing made.machine) made) (left rest : Option (List ℕ)) where
+    pub run_ends : (r : Result (Unit {0}) Halt) (now : Moment V) → Reopens r made now → is_err r ≡ true → RunDone r was now left rest
+    run_ends r now opens err =
+        let first = first_standing made.machine in
+        let q = opens.carried Nothing Done (refl, refl) first fits in
+        inr (
+          first,
+          (λ serves. absurd (stands_in_none r first made now err q serves)),
+          from_before r first (outside now) now.disk left rest
+              (opening_ends made.machine made.blocks r first first (outside made) (outside now) now.disk left rest (any_script left) err opens.no_stop (ends_by r first first made now err q)),
+        )
 
-    pub run_goes : (opened r : Result (Unit {0}) Halt) (mid now : Moment V) → CarriesOut (λ M B. power_on M B Nothing Done) opened made mid → opened ≡ Ok tt → Leaves opened made mid → LinesDone r mid now left rest → RunDone r was now left rest
-    run_goes opened r mid now out went leaves lines =
-        let q = subst (λ (z : Result (Unit {0}) Halt). CarriesOut (λ M B. power_on M B Nothing Done) z made mid) went out (first_standing made.machine) fits in
-        let k = lines q.0 (q.1 tt) in
+    pub run_goes : (opened r : Result (Unit {0}) Halt) (mid now : Moment V) → Reopens opened made mid → opened ≡ Ok tt → LinesDone r mid now left rest → RunDone r was now left rest
+    run_goes opened r mid now opens went lines =
+        let first = first_standing made.machine in
+        let leaves = opens.leaves in
+        let q = subst (λ (z : Result (Unit {0}) Halt). OpensTo (as_opened z) Nothing Done first made mid) went (opens.carried Nothing Done (refl, refl) first fits) in
+        let opened_as = stands_as made.machine made.blocks mid.phase (opens.powered went) first q.0 (outside made) (outside mid) q.2 in
+        let k = lines q.0 q.1 in
         let same = subst (λ (D : Blocks). DoneBy made.machine D (lines_meaning made.machine D) r q.0 k.0 (outside mid) (outside now) now.disk left rest) (blocks_are mid.blocks made.blocks leaves.blocks)
         (subst (λ (O : Machine V). DoneBy O mid.blocks (lines_meaning O mid.blocks) r q.0 k.0 (outside mid) (outside now) now.disk left rest) leaves.machine k.2) in
-        inr (k.0, k.1, from_before r k.0 (outside now) now.disk left rest (lines_run made.machine made.blocks (first_standing made.machine) q.0 (outside made) (outside mid) q.2 r k.0 (outside now) now.disk left rest same))
+        inr (k.0, k.1, from_before r k.0 (outside now) now.disk left rest (lines_run made.machine made.blocks first q.0 (outside made) (outside mid) opened_as r k.0 (outside now) now.disk left rest same))
 
-  -- what the making leaves
-  pub made_leaves : IsMade was.machine was.view was.disk made.disk → made.view ≡ was.view → made.phase ≡ Off → made.is_stopped ≡ false → made.lap ≡ 0 → made.faults ≡ was.faults → Leaves (Ok tt) was made
-  made_leaves h view off runs lap faults = record {
-    sits = λ serves. record {
+-- ================ the making
+
+-- no cut was armed, so none is
+cuts_left : (syncs : ℕ) (old new : List ArmedCut) → old ≡ [] → CutsLeft syncs old new → new ≡ []
+cuts_left syncs old new none left = subst (λ (cuts : List ArmedCut). CutsLeft syncs cuts new) none left
+
+-- and none came
+no_cut_came : (done syncs : ℕ) (old : List ArmedCut) → old ≡ [] → FirstComes done syncs old → ⊥
+no_cut_came done syncs old none came = subst (λ (cuts : List ArmedCut). FirstComes done syncs cuts) none came
+
+module _ {V : Type 0} (was made : Moment V) (unarmed : was.disk.armed ≡ []) (machine : made.machine ≡ was.machine) (fresh : IsFresh made.counts) where
+  -- the memory that was made fits the first standing
+  module _ (h : IsMade was.machine was.view was.disk made.disk) where
+    still_unarmed : made.disk.armed ≡ []
+    still_unarmed = cuts_left syncs_of_making was.disk.armed made.disk.armed unarmed h.run.left
+
+    waits : AreWaiting made.disk.armed
+    waits = subst AreWaiting (sym still_unarmed) tt
+
+    calls : AreCalls made.counts.calls.items made.disk.armed
+    calls = fresh.calls ∙ ap (map (λ (cut : ArmedCut). counts_calls cut.unit)) (sym still_unarmed)
+
+    none_armed : length made.disk.armed ≡ 0
+    none_armed = ap length still_unarmed
+
+    none_fallen : length made.counts.falls.items ≡ 0
+    none_fallen = ap length fresh.falls
+
+    pub first_fits : was.view ≡ was.machine.empty → FitsDown Nothing (first_standing made.machine) made
+    first_fits empty =
+        let is : was.view ≡ made.machine.empty = empty ∙ sym (ap (λ m. m.empty) machine) in
+        record {
+          lines = sym fresh.lines;
+          power_ons = sym fresh.power_ons;
+          lap = sym fresh.lap;
+          offers = sym fresh.offers;
+          armed = still_unarmed;
+          within = tt;
+          spelled = subst (λ v. HasPayload made.machine v) is (subst (λ O. HasPayload O was.view) (sym machine) h.spelled);
+          near = λ image may.
+              inl (unmasked made.machine made.machine.empty image
+              (subst (λ v. IsInBoth made.machine v image) is (subst (λ O. IsInBoth O was.view image) (sym machine) (h.both image may))));
+          fallen = λ image may. tt;
+          explained = λ none. (refl, refl);
+        }
+
+    pub made_down : TellsApart was.machine → IsDown made
+    made_down tells = record {
+      tells = subst TellsApart (sym machine) tells;
       size = h.size;
-      power = h.is_off ∙ ap is_powered (sym off);
-      unlocked = λ e. cc (sym off ∙ e);
-      runs = runs;
-      first_lap = lap;
-      no_cut = h.no_cut;
-      both = both_alike made.machine was.machine made.view was.view made.disk (sym machine) (sym view) h.both;
-      settled = λ e. h.settled;
-    };
-    no_fault = λ serves. h.no_fault;
-    disk_fault = λ e. absurd (cc e);
-    later = omega (arith, faults);
-    write_fault = λ e. absurd (cc e);
-    machine = machine;
-    blocks = blocks;
-  }
+      is_off = h.is_off;
+      laps = omega (arith, fresh.lap);
+      falls = omega (arith, none_fallen);
+      calls = calls;
+      waiting = waits;
+      room = omega (arith, none_armed, fresh.power_ons);
+    }
+
+    -- what the making leaves
+    pub made_leaves : ((lap index : ℕ) → made.blocks lap index ≡ was.blocks lap index) → TellsApart was.machine → made.phase ≡ Off → made.is_stopped ≡ false → made.faults ≡ was.faults → Leaves (Ok tt) was made
+    made_leaves blocks tells off runs faults = record {
+      sits = λ serves. record {
+        tells = subst TellsApart (sym machine) tells;
+        size = h.size;
+        power = h.is_off ∙ ap is_powered (sym off);
+        runs = runs;
+        same_lap = λ e. cc (sym off ∙ e);
+        laps = subst (λ (p : Phase). begun p made.counts.lap ≤ made.counts.power_ons) (sym off) (omega (arith, fresh.lap));
+        falls = subst (λ (p : Phase). begun p (length made.counts.falls.items) ≤ made.counts.power_ons) (sym off) (omega (arith, none_fallen));
+        counted = record { calls = calls; waiting = waits; room = omega (arith, none_armed, fresh.power_ons) };
+        settled = λ e. h.settled;
+        synced = λ e. cc (sym off ∙ e);
+      };
+      no_fault = λ serves. h.run.no_fault;
+      disk_fault = λ e. absurd (cc e);
+      later = omega (arith, faults);
+      write_fault = λ e. absurd (cc e);
+      machine = machine;
+      blocks = blocks;
+    }
+
+  -- ================ a making that failed
+
+  module _ (h : IsUnmade was.machine was.view was.disk made.disk) where
+    faulted_by : (IsCutOff syncs_of_making was.disk made.disk ⊎ IsFaulted syncs_of_making was.disk made.disk) → IsFaulted syncs_of_making was.disk made.disk
+    faulted_by (inl cut) = absurd (no_cut_came cut.done syncs_of_making was.disk.armed unarmed cut.came)
+    faulted_by (inr fault) = fault
+
+    abbrev faulted : IsFaulted syncs_of_making was.disk made.disk
+    faulted = faulted_by h.failed
+
+    pub unmade_done : was.disk.found ≡ [] → made.taken ≡ was.taken → (left rest : Option (List ℕ)) → RunDone (Err Halt.DiskFault) was made left rest
+    unmade_done found printed left rest = inl (record {
+      fault = refl;
+      found = h.found ∙ found;
+      syncs = h.fewer;
+      armed = cuts_left faulted.done was.disk.armed made.disk.armed unarmed faulted.left;
+      falls = fresh.falls;
+      printed = printed;
+    })
+
+    pub unmade_leaves : ((lap index : ℕ) → made.blocks lap index ≡ was.blocks lap index) → made.faults ≡ was.faults → Leaves (Err Halt.DiskFault) was made
+    unmade_leaves blocks faults = record {
+      sits = λ serves. absurd serves;
+      no_fault = λ serves. absurd serves;
+      disk_fault = λ e. faulted.fault;
+      later = omega (arith, faults);
+      write_fault = λ e. absurd (cc e);
+      machine = machine;
+      blocks = blocks;
+    }

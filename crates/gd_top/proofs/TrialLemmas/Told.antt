@@ -1,23 +1,20 @@
 -- What a trial did, by how its lines ended and by what was given of its last line.
-use Rattle.std.proofs.Common.{◌≡◌, inl, inr, ◌∙◌, ap, sym, subst, refl, ℕ, ◌+◌, ◌<◌, List, [], ◌∷◌, ◌++◌, length, codes, decimal, Option, None, Result, Ok, Err}
-use Rattle.std.specs.Io.KnownBytes.{Appends}
+use Rattle.std.proofs.Common.{◌≡◌, ◌⊎◌, inl, inr, ◌∙◌, ap, sym, subst, refl, ℕ, ◌+◌, ◌<◌, List, [], ◌∷◌, ◌++◌, length, codes, decimal, Option, None, Result, Ok, Err}
+use Rattle.std.specs.Io.KnownBytes.{Appends, IsAtEnd}
 use Rattle.gd_base.specs.Outside.Causes.{AppendsFront, Rose}
 use Rattle.gd_base.specs.Judging.Machine.{Machine}
-use Rattle.gd_cabinet.specs.Shown.{IsInBoth}
-use Rattle.gd_disk.specs.Disk.{DiskState}
-use Rattle.gd_disk.specs.declared.disk.ArmedCut.{ArmedCut}
 use Rattle.gd_store.specs.Masks.{Mask}
-use Rattle.gd_top.specs.Claims.MemoryLeft.{IsAtRest, IsLeft, IsLeftIn, IsMasked, first_syncs}
-use Rattle.gd_top.specs.Claims.Trial.{Outer, GivesLast, TrialDone, last_text, status_after}
+use Rattle.gd_top.specs.Claims.MemoryLeft.{IsAtRest, IsLeft, IsLeftIn, first_syncs}
+use Rattle.gd_top.specs.Claims.Trial.{Outer, GivesLast, TrialDone, WroteReport, last_text, status_after}
 use Rattle.gd_top.specs.Code.LinesDone.{RunBy, RunDone, made_outside}
-use Rattle.gd_top.specs.Code.Memory.{Moment, Fits, Leaves, Serves, Sits, outside}
+use Rattle.gd_top.specs.Code.Memory.{Moment, Fits, IsKnownIn, Leaves, Serves, Sits, outside}
 use Rattle.gd_top.specs.Code.Standing.{Standing, at, only, first_standing}
 use Rattle.gd_top.specs.Run.Life.{end_line, end_status}
 use Rattle.gd_top.specs.Run.Offers.{AreArmed}
-use Rattle.gd_top.specs.Run.State.{State, Phase, On, Off, Locked, Goes, Stops, is_powered}
+use Rattle.gd_top.specs.Run.State.{Phase, On, Off, Locked, Goes, Stops, is_powered}
 use Rattle.gd_top.specs.declared.halt.Halt.{Halt}
 use Rattle.gd_top.specs.declared.status.Status.{Status}
-use Rattle.gd_top.proofs.ItemLemmas.Images.{both_alike, unmasked}
+use Rattle.gd_top.proofs.RunLemmas.Cuts.{armed_length}
 use Rattle.gd_top.proofs.TrialLemmas.WholeRun.{wrote_report, front_report, wrote_to_fault, front_to_fault, wrote_broken, front_broken, front_opening, front_line, wrote_unmade, front_unmade}
 
 nothing_more : (taken gave : Option (List ℕ)) (front rest : List ℕ) → front ++ rest ≡ [] → Appends taken gave front → Appends taken gave []
@@ -36,14 +33,11 @@ write_fault : (status : Status) (taken gave : Option (List ℕ)) (text : List �
 write_fault status taken gave text (inl h) = h.0
 write_fault status taken gave text (inr h) = h.0
 
-not_locked : (phase : Phase) → end_status phase ≡ Status.Done → phase ≡ Locked → ⊥
-not_locked phase done is = cc (done, is)
-
-left_in : {V : Type 0} (M : Machine V) (phase : Phase) (s : State V) (disk : DiskState) → end_status phase ≡ Status.Done → s.masks ≡ [] → ((image : List ℕ) → disk.may_find image → IsInBoth M s.view image)
-    → IsLeftIn M phase s disk
-left_in M On s disk done none both = both
-left_in M Off s disk done none both = λ image may. subst (λ (masks : List Mask). IsMasked M s.view masks image) (sym none) (unmasked M s.view image (both image may))
-left_in M Locked s disk done none both = absurd (cc done)
+-- the last line is that of the phase, and with the power on that of the view
+line_by : {V : Type 0} (M : Machine V) (phase : Phase) (view : V) (masks : List Mask) (v : V) → IsKnownIn phase view masks v → end_line M phase v ≡ end_line M phase view
+line_by M On view masks v known = ap (end_line M On) (sym known.0)
+line_by M Off view masks v known = refl
+line_by M Locked view masks v known = refl
 
 module _ {V : Type 0} (was now : Moment V) (left rest gave : Option (List ℕ)) (r0 r1 w2 : ℕ) where
   abbrev M : Machine V
@@ -55,99 +49,111 @@ module _ {V : Type 0} (was now : Moment V) (left rest gave : Option (List ℕ)) 
   abbrev new : Outer
   new = record { left = rest; read_faults = r1; taken = gave; write_faults = w2; disk = now.disk }
 
+  abbrev falls : List ℕ
+  falls = now.counts.falls.items
+
   -- ================ a memory that stands
 
-  module _ (t : Standing V) (fits : Fits t now) (sits : Sits now) (same : now.machine ≡ was.machine) (rested : IsAtRest now.phase now.disk) (done : end_status now.phase ≡ Status.Done) where
+  module _ (t : Standing V) (fits : Fits t now) (sits : Sits now) (same : now.machine ≡ was.machine) (rested : IsAtRest now.phase now.disk) where
     armed : AreArmed t.armed now.disk.armed
-    armed = subst (λ (cuts : List ArmedCut). AreArmed cuts now.disk.armed) (sym fits.armed) sits.no_cut
+    armed = fits.armed
 
     as_many : length now.disk.armed ≡ length t.armed
-    as_many = ap length (sits.no_cut ∙ sym fits.armed)
+    as_many = armed_length t.armed now.disk.armed fits.armed
 
-    holds : IsLeftIn M t.phase (at t (only [] [] None)) now.disk
+    holds : IsLeftIn M t.phase t.view t.masks now.disk
     holds =
-        left_in M t.phase (at t (only [] [] None)) now.disk (ap end_status fits.phase ∙ done) fits.unmasked
-        (both_alike M now.machine t.view now.view now.disk same (sym fits.view) sits.both)
+        subst (λ (phase : Phase). IsLeftIn M phase t.view t.masks now.disk) (sym fits.phase)
+        (subst (λ (O : Machine V). IsLeftIn O now.phase t.view t.masks now.disk) same fits.holds)
 
     is_left : IsLeft M (at t (only [] [] None)) now.disk
     is_left = record { power = sits.power ∙ ap is_powered (sym fits.phase); holds = holds; at_rest = subst (λ (phase : Phase). IsAtRest phase now.disk) (sym fits.phase) rested }
 
     end_is : end_line now.machine now.phase now.view ≡ end_line M t.phase t.view
-    end_is = λ i. end_line (same i) (sym fits.phase i) (sym fits.view i)
+    end_is = line_by now.machine now.phase t.view t.masks now.view fits.known ∙ (λ i. end_line (same i) (sym fits.phase i) t.view)
 
     fault_is : codes "line " ++ decimal (now.counts.lines + 1) ++ codes "\n" ≡ codes "line " ++ decimal (t.lines + 1) ++ codes "\n"
     fault_is = ap (λ (n : ℕ). codes "line " ++ decimal (n + 1) ++ codes "\n") (sym fits.lines)
 
-    ended_done : end_status t.phase ≡ Status.Done
-    ended_done = ap end_status fits.phase ∙ done
+    status_is : end_status t.phase ≡ end_status now.phase
+    status_is = ap end_status fits.phase
 
-  by_status : (s status : Status) → status ≡ s → TrialDone M was.blocks s [] old new → TrialDone M was.blocks status [] old new
-  by_status s status is h = subst (λ (q : Status). TrialDone M was.blocks q [] old new) (sym is) h
+  by_status : (s status : Status) → status ≡ s → TrialDone M was.blocks s falls old new → TrialDone M was.blocks status falls old new
+  by_status s status is h = subst (λ (q : Status). TrialDone M was.blocks q falls old new) (sym is) h
+
+  -- a run to the end of its input, over an open memory, a closed one or a locked one
+  ended_by : (phase : Phase) → (end_status phase ≡ Status.Done) ⊎ (end_status phase ≡ Status.Locked)
+  ended_by On = inl refl
+  ended_by Off = inl refl
+  ended_by Locked = inr refl
+
+  by_end : (s : Status) → (s ≡ Status.Done) ⊎ (s ≡ Status.Locked) → WroteReport M was.blocks s falls old new → IsAtEnd rest → TrialDone M was.blocks s falls old new
+  by_end s (inl is) h end = by_status Status.Done s is (subst (λ (q : Status). WroteReport M was.blocks q falls old new) is h, end)
+  by_end s (inr is) h end = by_status Status.Locked s is (subst (λ (q : Status). WroteReport M was.blocks q falls old new) is h, end)
 
   -- ================ by how the lines ended
 
   done_by : (r : Result (Unit {0}) Halt) (t : Standing V) (status : Status) → RunBy M was.blocks r (first_standing M) t (made_outside was) (outside now) now.disk left rest → (Serves r → Fits t now) → (Serves r → Sits now)
-      → (Serves r → IsAtRest now.phase now.disk) → now.machine ≡ was.machine → end_status now.phase ≡ Status.Done → (r ≡ Err Halt.ReadFault → Rose r0 r1) → (r ≡ Err Halt.DiskFault → Rose was.disk.faults now.disk.faults)
-      → GivesLast (status_after r now.phase) status now.taken gave (last_text now.machine r now.phase now.view now.counts.lines) → TrialDone M was.blocks status [] old new
-  done_by (Ok u) t status k fits sits rested same done read broke (inl last) =
+      → (Serves r → IsAtRest now.phase now.disk) → now.machine ≡ was.machine → (r ≡ Err Halt.ReadFault → Rose r0 r1) → (r ≡ Err Halt.DiskFault → Rose was.disk.faults now.disk.faults)
+      → GivesLast (status_after r now.phase) status now.taken gave (last_text now.machine r now.phase now.view now.counts.lines) → TrialDone M was.blocks status falls old new
+  done_by (Ok u) t status k fits sits rested same read broke (inl last) =
       let f = fits tt in
       let s = sits tt in
       let d = rested tt in
-      by_status Status.Done status (last.0 ∙ done) (
-        wrote_report M was.blocks old new now.taken Goes t k.0.source k.0.carried (armed t f s same d done) f.explained Status.Done (ended_done t f s same d done)
-            (subst (Appends now.taken gave) (end_is t f s same d done) last.1) (is_left t f s same d done),
-        k.1,
-      )
-  done_by (Ok u) t status k fits sits rested same done read broke (inr last) =
+      by_status (end_status now.phase) status last.0
+      (by_end (end_status now.phase) (ended_by now.phase)
+      (wrote_report M was.blocks old new now.taken falls Goes t k.0.source k.0.carried (armed t f s same d) f.explained (end_status now.phase) (status_is t f s same d)
+      (subst (Appends now.taken gave) (end_is t f s same d) last.1) (is_left t f s same d)) k.1)
+  done_by (Ok u) t status k fits sits rested same read broke (inr last) =
       let f = fits tt in
       let s = sits tt in
       let d = rested tt in
       by_status Status.WriteFault status last.0
-      (front_report M was.blocks old new now.taken Goes t k.0.source k.0.carried (armed t f s same d done) f.explained (as_many t f s same d done) (λ is. cc is)
-      (subst (AppendsFront now.taken gave) (end_is t f s same d done) last.1) (holds t f s same d done))
-  done_by (Err Halt.ScriptFault) t status k fits sits rested same done read broke (inl last) =
+      (front_report M was.blocks old new now.taken falls Goes t k.0.source k.0.carried (armed t f s same d) f.explained (as_many t f s same d) (λ is. cc is)
+      (subst (AppendsFront now.taken gave) (end_is t f s same d) last.1) (holds t f s same d))
+  done_by (Err Halt.ScriptFault) t status k fits sits rested same read broke (inl last) =
       let f = fits tt in
       let s = sits tt in
       let d = rested tt in
       by_status Status.ScriptFault status last.0
-      (wrote_report M was.blocks old new now.taken Stops t k.source k.carried (armed t f s same d done) f.explained Status.ScriptFault refl
-      (subst (Appends now.taken gave) (fault_is t f s same d done) last.1) (is_left t f s same d done))
-  done_by (Err Halt.ScriptFault) t status k fits sits rested same done read broke (inr last) =
+      (wrote_report M was.blocks old new now.taken falls Stops t k.source k.carried (armed t f s same d) f.explained Status.ScriptFault refl
+      (subst (Appends now.taken gave) (fault_is t f s same d) last.1) (is_left t f s same d))
+  done_by (Err Halt.ScriptFault) t status k fits sits rested same read broke (inr last) =
       let f = fits tt in
       let s = sits tt in
       let d = rested tt in
       by_status Status.WriteFault status last.0
-      (front_report M was.blocks old new now.taken Stops t k.source k.carried (armed t f s same d done) f.explained (as_many t f s same d done) (λ is. cc is)
-      (subst (AppendsFront now.taken gave) (fault_is t f s same d done) last.1) (holds t f s same d done))
-  done_by (Err Halt.ReadFault) t status k fits sits rested same done read broke (inl last) =
+      (front_report M was.blocks old new now.taken falls Stops t k.source k.carried (armed t f s same d) f.explained (as_many t f s same d) (λ is. cc is)
+      (subst (AppendsFront now.taken gave) (fault_is t f s same d) last.1) (holds t f s same d))
+  done_by (Err Halt.ReadFault) t status k fits sits rested same read broke (inl last) =
       let f = fits tt in
       let s = sits tt in
       let d = rested tt in
-      by_status Status.ReadFault status last.0 (wrote_to_fault M was.blocks old new now.taken t k f.explained (armed t f s same d done) last.1 (is_left t f s same d done))
-  done_by (Err Halt.ReadFault) t status k fits sits rested same done read broke (inr last) =
+      by_status Status.ReadFault status last.0 (wrote_to_fault M was.blocks old new now.taken falls t k f.explained (armed t f s same d) last.1 (is_left t f s same d))
+  done_by (Err Halt.ReadFault) t status k fits sits rested same read broke (inr last) =
       let f = fits tt in
       let s = sits tt in
       let d = rested tt in
       by_status Status.WriteFault status last.0
-      (front_to_fault M was.blocks old new now.taken t k f.explained (as_many t f s same d done) (read refl) last.1 (holds t f s same d done))
-  done_by (Err Halt.DiskFault) t status k fits sits rested same done read broke (inl last) = by_status Status.DiskFault status last.0 (wrote_broken M was.blocks old new now.taken k last.1)
-  done_by (Err Halt.DiskFault) t status k fits sits rested same done read broke (inr last) = by_status Status.WriteFault status last.0 (front_broken M was.blocks old new now.taken k (broke refl) last.1)
-  done_by (Err Halt.WriteFault) t status (inl k) fits sits rested same done read broke last =
-      by_status Status.WriteFault status (write_fault status now.taken gave [] last) (front_opening M was.blocks old new now.taken k (nothing_given Status.WriteFault status now.taken gave last))
-  done_by (Err Halt.WriteFault) t status (inr k) fits sits rested same done read broke last =
-      by_status Status.WriteFault status (write_fault status now.taken gave [] last) (front_line M was.blocks old new now.taken k (nothing_given Status.WriteFault status now.taken gave last))
+      (front_to_fault M was.blocks old new now.taken falls t k f.explained (as_many t f s same d) (read refl) last.1 (holds t f s same d))
+  done_by (Err Halt.DiskFault) t status k fits sits rested same read broke (inl last) = by_status Status.DiskFault status last.0 (wrote_broken M was.blocks old new now.taken falls k last.1)
+  done_by (Err Halt.DiskFault) t status k fits sits rested same read broke (inr last) = by_status Status.WriteFault status last.0 (front_broken M was.blocks old new now.taken falls k (broke refl) last.1)
+  done_by (Err Halt.WriteFault) t status (inl k) fits sits rested same read broke last =
+      by_status Status.WriteFault status (write_fault status now.taken gave [] last) (front_opening M was.blocks old new now.taken falls k (nothing_given Status.WriteFault status now.taken gave last))
+  done_by (Err Halt.WriteFault) t status (inr k) fits sits rested same read broke last =
+      by_status Status.WriteFault status (write_fault status now.taken gave [] last) (front_line M was.blocks old new now.taken falls k (nothing_given Status.WriteFault status now.taken gave last))
 
   -- the making of the memory failed
-  unmade_by : (status : Status) → now.disk.found ≡ [] → now.disk.syncs < was.disk.syncs + first_syncs → now.disk.armed ≡ [] → now.taken ≡ was.taken → Rose was.disk.faults now.disk.faults
-      → GivesLast Status.DiskFault status now.taken gave (codes "disk fault\n") → TrialDone M was.blocks status [] old new
-  unmade_by status found few unarmed printed rose (inl last) = by_status Status.DiskFault status last.0 (wrote_unmade M was.blocks old new now.taken found few unarmed printed last.1)
-  unmade_by status found few unarmed printed rose (inr last) = by_status Status.WriteFault status last.0 (front_unmade M was.blocks old new now.taken found few unarmed printed rose last.1)
+  unmade_by : (status : Status) → now.disk.found ≡ [] → now.disk.syncs < was.disk.syncs + first_syncs → now.disk.armed ≡ [] → now.taken ≡ was.taken → falls ≡ [] → Rose was.disk.faults now.disk.faults
+      → GivesLast Status.DiskFault status now.taken gave (codes "disk fault\n") → TrialDone M was.blocks status falls old new
+  unmade_by status found few unarmed printed unfallen rose (inl last) = by_status Status.DiskFault status last.0 (wrote_unmade M was.blocks old new now.taken falls found few unarmed printed unfallen last.1)
+  unmade_by status found few unarmed printed unfallen rose (inr last) = by_status Status.WriteFault status last.0 (front_unmade M was.blocks old new now.taken falls found few unarmed printed unfallen rose last.1)
 
   -- ================ the whole
 
-  pub trial_done : (r : Result (Unit {0}) Halt) (status : Status) → RunDone r was now left rest → Leaves r was now → (Serves r → IsAtRest now.phase now.disk) → end_status now.phase ≡ Status.Done
-      → (r ≡ Err Halt.ReadFault → Rose r0 r1) → GivesLast (status_after r now.phase) status now.taken gave (last_text now.machine r now.phase now.view now.counts.lines) → TrialDone M was.blocks status [] old new
-  trial_done r status (inl k) leaves rested done read last =
-      unmade_by status k.found k.syncs k.armed k.printed (leaves.disk_fault k.fault)
+  pub trial_done : (r : Result (Unit {0}) Halt) (status : Status) → RunDone r was now left rest → Leaves r was now → (Serves r → IsAtRest now.phase now.disk)
+      → (r ≡ Err Halt.ReadFault → Rose r0 r1) → GivesLast (status_after r now.phase) status now.taken gave (last_text now.machine r now.phase now.view now.counts.lines) → TrialDone M was.blocks status falls old new
+  trial_done r status (inl k) leaves rested read last =
+      unmade_by status k.found k.syncs k.armed k.printed k.falls (leaves.disk_fault k.fault)
       (subst (λ (q : Result (Unit {0}) Halt). GivesLast (status_after q now.phase) status now.taken gave (last_text now.machine q now.phase now.view now.counts.lines)) k.fault last)
-  trial_done r status (inr k) leaves rested done read last = done_by r k.0 status k.2 k.1 leaves.sits rested leaves.machine done read leaves.disk_fault last
+  trial_done r status (inr k) leaves rested read last = done_by r k.0 status k.2 k.1 leaves.sits rested leaves.machine read leaves.disk_fault last

@@ -63,13 +63,13 @@ module _ {V : Type 0} (M : Machine V) (B : Blocks) where
   abbrev first : Standing V
   first = first_standing M
 
-  -- `mid` is what the sink had taken before the last line of the report
-  module _ (was now : Outer) (mid : Option (List ℕ)) where
+  -- `mid` is what the sink had taken before the last line of the report, and `falls` are those that are given back
+  module _ (was now : Outer) (mid : Option (List ℕ)) (falls : List ℕ) where
     abbrev made : Outside
     made = record { found = []; taken = was.taken; falls = []; syncs = was.disk.syncs + first_syncs }
 
     abbrev ended : Outside
-    ended = record { found = now.disk.found; taken = mid; falls = []; syncs = now.disk.syncs }
+    ended = record { found = now.disk.found; taken = mid; falls = falls; syncs = now.disk.syncs }
 
     -- ================ lines that were carried out
 
@@ -77,17 +77,17 @@ module _ {V : Type 0} (M : Machine V) (B : Blocks) where
       abbrev run : Part V
       run = record { report = k.report; state = at t (only [] [] None); outcome = o }
 
-      run_is : run ≡ trial_meaning M B lines [] (starts_in M now.disk.found) None
+      run_is : run ≡ trial_meaning M B lines falls (starts_in M now.disk.found) None
       run_is =
           nothing_behind k.report (at t (only [] [] None)) o
           ∙ sym (k.tells (only [] [] None) (ends_nowhere t.offers) tt)
           ∙ ap (λ (ss : List (Start V)). trial_meaning M B lines (k.fell ++ []) ss None) (append-nil (starts_in M k.since))
           ∙ ap (λ (fs : List ℕ). trial_meaning M B lines fs (starts_in M k.since) None) (append-nil k.fell ∙ sym k.fallen)
-          ∙ ap (λ (images : List (List ℕ)). trial_meaning M B lines [] (starts_in M images) None) (sym k.listed)
+          ∙ ap (λ (images : List (List ℕ)). trial_meaning M B lines falls (starts_in M images) None) (sym k.listed)
 
       whole : AreArmed t.armed now.disk.armed → (t.forged ≡ 0 → (t.other_views ≡ 0) × (t.other_locks ≡ 0)) → IsLeft M (at t (only [] [] None)) now.disk → IsWhole M B run was now
       whole armed explained left = record {
-        legal = legal_at run lines [] (starts_in M now.disk.found) None run_is;
+        legal = legal_at run lines falls (starts_in M now.disk.found) None run_is;
         used_up = (refl, refl);
         armed = armed;
         synced = λ none. omega (arith, k.moves.synced none);
@@ -96,7 +96,7 @@ module _ {V : Type 0} (M : Machine V) (B : Blocks) where
       }
 
       abbrev first_lines : (source : ScriptOf was.left) → (others : List (Option Item)) × (script_of source.script ≡ lines ++ others) → length now.disk.armed ≡ length t.armed
-          → (t.forged ≡ 0 → (t.other_views ≡ 0) × (t.other_locks ≡ 0)) → FirstLines M B [] was now
+          → (t.forged ≡ 0 → (t.other_views ≡ 0) × (t.other_locks ≡ 0)) → FirstLines M B falls was now
       first_lines source begins armed explained = record {
         script = source.script;
         of_source = source.of_source;
@@ -109,7 +109,7 @@ module _ {V : Type 0} (M : Machine V) (B : Blocks) where
         ends_at = None;
         run = run;
         is_run = run_is;
-        legal = legal_at run lines [] (starts_in M now.disk.found) None run_is;
+        legal = legal_at run lines falls (starts_in M now.disk.found) None run_is;
         used_up = (refl, refl);
         armed = armed;
         explained = explained;
@@ -122,7 +122,7 @@ module _ {V : Type 0} (M : Machine V) (B : Blocks) where
       -- a front of its last line was given
       front_of : (source : ScriptOf was.left) (begins : (others : List (Option Item)) × (script_of source.script ≡ lines ++ others)) (armed : length now.disk.armed ≡ length t.armed)
           (explained : t.forged ≡ 0 → (t.other_views ≡ 0) × (t.other_locks ≡ 0)) (text : List ℕ) → IsLastLine M B (first_lines source begins armed explained) text → AppendsFront mid now.taken text
-          → IsLeftAt M run now.disk → WroteFront M B [] was now
+          → IsLeftAt M run now.disk → WroteFront M B falls was now
       front_of source begins armed explained text last p left = record {
         first = first_lines source begins armed explained;
         written = inl (text, last, p.front, with_text p.front p.appended, p.rest, p.whole);
@@ -134,7 +134,7 @@ module _ {V : Type 0} (M : Machine V) (B : Blocks) where
     module _ (o : Outcome) (t : Standing V) (source : ScriptOf was.left) (k : Carries M (run_meaning M B (script_of source.script)) o first t made ended)
         (armed : AreArmed t.armed now.disk.armed) (explained : t.forged ≡ 0 → (t.other_views ≡ 0) × (t.other_locks ≡ 0)) where
       pub wrote_report : (status : Status) → status_of o (at t (only [] [] None)) ≡ status → Appends mid now.taken (last_line M o (at t (only [] [] None))) → IsLeft M (at t (only [] [] None)) now.disk
-          → WroteReport M B status [] was now
+          → WroteReport M B status falls was now
       wrote_report status is last left = record {
         script = source.script;
         of_source = source.of_source;
@@ -146,14 +146,14 @@ module _ {V : Type 0} (M : Machine V) (B : Blocks) where
       }
 
       pub front_report : length now.disk.armed ≡ length t.armed → (o ≡ Breaks → ⊥) → AppendsFront mid now.taken (last_line M o (at t (only [] [] None))) → IsLeftAt M (run o (script_of source.script) t k) now.disk
-          → WroteFront M B [] was now
+          → WroteFront M B falls was now
       front_report same unbroken last left =
           front_of o (script_of source.script) t k source ([], sym (append-nil (script_of source.script))) same explained (last_line M o (at t (only [] [] None))) (inl (refl, unbroken, refl)) last left
 
     -- ================ the source failed
 
     module _ (t : Standing V) (k : CarriedTaken M (run_meaning M B) first t made ended was.left now.left) (explained : t.forged ≡ 0 → (t.other_views ≡ 0) × (t.other_locks ≡ 0)) where
-      pub wrote_to_fault : AreArmed t.armed now.disk.armed → Appends mid now.taken (codes "read fault\n") → IsLeft M (at t (only [] [] None)) now.disk → WroteToFault M B [] was now
+      pub wrote_to_fault : AreArmed t.armed now.disk.armed → Appends mid now.taken (codes "read fault\n") → IsLeft M (at t (only [] [] None)) now.disk → WroteToFault M B falls was now
       wrote_to_fault armed last left = record {
         came = k.came;
         consumed = k.consumed;
@@ -167,7 +167,7 @@ module _ {V : Type 0} (M : Machine V) (B : Blocks) where
       }
 
       pub front_to_fault : length now.disk.armed ≡ length t.armed → Rose was.read_faults now.read_faults → AppendsFront mid now.taken (codes "read fault\n") → IsLeftAt M (run Goes (whole_lines k.came) t k.carried) now.disk
-          → WroteFront M B [] was now
+          → WroteFront M B falls was now
       front_to_fault same rose last left =
           let source = came_of was.left now.left k.came k.consumed in
           front_of Goes (whole_lines k.came) t k.carried (record { script = k.came ++ source.0; of_source = source.1 }) (k.begins source.0) same explained (codes "read fault\n") (inr (inr (refl, refl, rose))) last left
@@ -175,9 +175,9 @@ module _ {V : Type 0} (M : Machine V) (B : Blocks) where
     -- ================ a run that ended in one of these lines
 
     abbrev ending_first : (lines : List (Option Item)) (k : Ending M (run_meaning M B lines) first made ended) (source : ScriptOf was.left)
-        → (others : List (Option Item)) × (script_of source.script ≡ lines ++ others) → length now.disk.armed ≡ length k.end.state.armed → FirstLines M B [] was now
+        → (others : List (Option Item)) × (script_of source.script ≡ lines ++ others) → length now.disk.armed ≡ length k.end.state.armed → FirstLines M B falls was now
     ending_first lines k source begins armed =
-        let is : k.end ≡ trial_meaning M B lines [] k.found.used k.broken_at = sym k.tells ∙ ap (λ (fs : List ℕ). trial_meaning M B lines fs k.found.used k.broken_at) (sym k.fallen) in
+        let is : k.end ≡ trial_meaning M B lines falls k.found.used k.broken_at = sym k.tells ∙ ap (λ (fs : List ℕ). trial_meaning M B lines fs k.found.used k.broken_at) (sym k.fallen) in
         record {
           script = source.script;
           of_source = source.of_source;
@@ -190,14 +190,14 @@ module _ {V : Type 0} (M : Machine V) (B : Blocks) where
           ends_at = k.broken_at;
           run = k.end;
           is_run = is;
-          legal = legal_at k.end lines [] k.found.used k.broken_at is;
+          legal = legal_at k.end lines falls k.found.used k.broken_at is;
           used_up = k.used_up;
           armed = armed;
           explained = k.explained;
         }
 
     -- the disk failed
-    pub wrote_broken : BrokenIn M (run_meaning M B) first made ended now.disk was.left → Appends mid now.taken (codes "disk fault\n") → WroteBroken M B [] was now
+    pub wrote_broken : BrokenIn M (run_meaning M B) first made ended now.disk was.left → Appends mid now.taken (codes "disk fault\n") → WroteBroken M B falls was now
     wrote_broken k last =
         let end = k.broken.ending.end in
         record {
@@ -208,7 +208,7 @@ module _ {V : Type 0} (M : Machine V) (B : Blocks) where
           left = inr k.broken.left;
         }
 
-    pub front_broken : BrokenIn M (run_meaning M B) first made ended now.disk was.left → Rose was.disk.faults now.disk.faults → AppendsFront mid now.taken (codes "disk fault\n") → WroteFront M B [] was now
+    pub front_broken : BrokenIn M (run_meaning M B) first made ended now.disk was.left → Rose was.disk.faults now.disk.faults → AppendsFront mid now.taken (codes "disk fault\n") → WroteFront M B falls was now
     front_broken k rose p =
         let end = k.broken.ending.end in
         record {
@@ -218,7 +218,7 @@ module _ {V : Type 0} (M : Machine V) (B : Blocks) where
         }
 
     -- the sink failed in the lines of the opening
-    pub front_opening : Unwritten M (power_on M B Nothing Done) first made ended now.disk → Appends mid now.taken [] → WroteFront M B [] was now
+    pub front_opening : Unwritten M (power_on M B Nothing Done) first made ended now.disk → Appends mid now.taken [] → WroteFront M B falls was now
     front_opening k nothing =
         let source = source_of was.left in
         record {
@@ -241,13 +241,13 @@ module _ {V : Type 0} (M : Machine V) (B : Blocks) where
           (ending_at M (line_meaning M B k.line) (λ u. lines_meaning M B (k.line ∷ []) u) k.stands k.between ended (λ x. one_line k.line (at k.stands x)) here))
 
       -- what the lines before it print
-      earlier_told : (trial_meaning M B k.earlier [] (starts_in M k.carried.since ++ here.found.used) here.broken_at).report ≡ k.carried.report
+      earlier_told : (trial_meaning M B k.earlier falls (starts_in M k.carried.since ++ here.found.used) here.broken_at).report ≡ k.carried.report
       earlier_told =
           ap (λ (fs : List ℕ). (trial_meaning M B k.earlier fs (starts_in M k.carried.since ++ here.found.used) here.broken_at).report) joined.fallen
           ∙ ap (λ (p : Part V). p.report) (k.carried.tells (only here.found.used here.fell here.broken_at) here.late here.rising)
           ∙ append-nil k.carried.report
 
-      pub front_line : Appends mid now.taken [] → WroteFront M B [] was now
+      pub front_line : Appends mid now.taken [] → WroteFront M B falls was now
       front_line nothing =
           let p = front_still k.between.taken mid now.taken here.end.report k.unwritten.printed nothing in
           record {
@@ -268,14 +268,16 @@ module _ {V : Type 0} (M : Machine V) (B : Blocks) where
 
     -- ================ the making of the memory failed
 
-    module _ (found : now.disk.found ≡ []) (few : now.disk.syncs < was.disk.syncs + first_syncs) (unarmed : now.disk.armed ≡ []) (printed : mid ≡ was.taken) where
+    module _ (found : now.disk.found ≡ []) (few : now.disk.syncs < was.disk.syncs + first_syncs) (unarmed : now.disk.armed ≡ []) (printed : mid ≡ was.taken) (unfallen : falls ≡ []) where
       abbrev unmade : Part V
       unmade = ends Breaks [] (at first (only [] [] None))
 
-      unmade_is : unmade ≡ trial_meaning M B [] [] [] None
-      unmade_is = sym (ap (λ (t : Part V). followed_by t (λ u. lines_meaning M B [] u)) (no_start M B Nothing Done (at first (only [] [] None))))
+      unmade_is : unmade ≡ trial_meaning M B [] falls [] None
+      unmade_is =
+          sym (ap (λ (t : Part V). followed_by t (λ u. lines_meaning M B [] u)) (no_start M B Nothing Done (at first (only [] [] None))))
+          ∙ ap (λ (fs : List ℕ). trial_meaning M B [] fs [] None) (sym unfallen)
 
-      abbrev unmade_first : FirstLines M B [] was now
+      abbrev unmade_first : FirstLines M B falls was now
       unmade_first =
           let source = source_of was.left in
           record {
@@ -290,13 +292,13 @@ module _ {V : Type 0} (M : Machine V) (B : Blocks) where
             ends_at = None;
             run = unmade;
             is_run = unmade_is;
-            legal = legal_at unmade [] [] [] None unmade_is;
+            legal = legal_at unmade [] falls [] None unmade_is;
             used_up = (refl, refl);
             armed = ap length unarmed;
             explained = λ none. (refl, refl);
           }
 
-      pub wrote_unmade : Appends mid now.taken (codes "disk fault\n") → WroteBroken M B [] was now
+      pub wrote_unmade : Appends mid now.taken (codes "disk fault\n") → WroteBroken M B falls was now
       wrote_unmade last = record {
         first = unmade_first;
         breaks = refl;
@@ -304,7 +306,7 @@ module _ {V : Type 0} (M : Machine V) (B : Blocks) where
         left = inl (found, few);
       }
 
-      pub front_unmade : Rose was.disk.faults now.disk.faults → AppendsFront mid now.taken (codes "disk fault\n") → WroteFront M B [] was now
+      pub front_unmade : Rose was.disk.faults now.disk.faults → AppendsFront mid now.taken (codes "disk fault\n") → WroteFront M B falls was now
       front_unmade rose p = record {
         first = unmade_first;
         written = inl (codes "disk fault\n", inr (inl (refl, refl, rose)), p.front, subst (λ (taken : Option (List ℕ)). Appends taken now.taken p.front) printed p.appended, p.rest, p.whole);

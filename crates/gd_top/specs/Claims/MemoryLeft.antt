@@ -33,10 +33,10 @@ pub record IsShut {V : Type 0} (M : Machine V) (disk : DiskState) : Type 0 where
   pub shut : shows M image ≡ Unreadable
 
 -- what each image that may be found holds, by the phase
-abbrev pub IsLeftIn : {V : Type 0} → Machine V → Phase → State V → DiskState → Type 0
-IsLeftIn M On s disk = (image : List ℕ) → disk.may_find image → IsInBoth M s.view image
-IsLeftIn M Off s disk = (image : List ℕ) → disk.may_find image → IsMasked M s.view s.masks image
-IsLeftIn M Locked s disk = IsShut M disk
+abbrev pub IsLeftIn : {V : Type 0} → Machine V → Phase → V → List Mask → DiskState → Type 0
+IsLeftIn M On v masks disk = (image : List ℕ) → disk.may_find image → IsInBoth M v image
+IsLeftIn M Off v masks disk = (image : List ℕ) → disk.may_find image → IsMasked M v masks image
+IsLeftIn M Locked v masks disk = IsShut M disk
 
 -- nothing waits for a sync: no two images may be found
 abbrev pub IsSettled : DiskState → Type 0
@@ -51,7 +51,7 @@ IsAtRest Locked disk = IsSynced disk
 -- the memory that a run leaves where neither the disk nor the sink failed
 pub record IsLeft {V : Type 0} (M : Machine V) (s : State V) (disk : DiskState) : Type 0 where
   pub power : disk.is_on ≡ is_powered s.phase
-  pub holds : IsLeftIn M s.phase s disk
+  pub holds : IsLeftIn M s.phase s.view s.masks disk
   pub at_rest : IsAtRest s.phase disk
 
 -- ================ where the disk or the sink failed
@@ -81,8 +81,8 @@ IsLeftBroken M s disk = (image : List ℕ) → disk.may_find image → IsNear M 
 -- the sink failed, by how the part is told
 abbrev pub IsLeftBy : {V : Type 0} → Machine V → Outcome → State V → DiskState → Type 0
 IsLeftBy M Breaks s disk = IsLeftBroken M s disk
-IsLeftBy M Goes s disk = IsLeftIn M s.phase s disk
-IsLeftBy M Stops s disk = IsLeftIn M s.phase s disk
+IsLeftBy M Goes s disk = IsLeftIn M s.phase s.view s.masks disk
+IsLeftBy M Stops s disk = IsLeftIn M s.phase s.view s.masks disk
 IsLeftBy M Differs s disk = ⊥
 
 abbrev pub IsLeftAt : {V : Type 0} → Machine V → Part V → DiskState → Type 0

@@ -21,3 +21,10 @@ OneLegalHistory {V} M blocks =
 abbrev pub OneLegalHistoryOverImages : {V : Type 0} → Machine V → Blocks → Type 0
 OneLegalHistoryOverImages {V} M blocks =
     (lines : List (Option Item)) (image : Start V) (broken_at : Option ℕ) → HasLegalHistory M blocks (image_meaning M blocks lines image broken_at).state
+
+-- In every trial the history began with the empty view, at first and after each clearing, unless a view was found that no order
+-- of writing explains.
+abbrev pub BeginsEmpty : {V : Type 0} → Machine V → Blocks → Type 0
+BeginsEmpty {V} M blocks =
+    (lines : List (Option Item)) (falls : List ℕ) (starts : List (Start V)) (broken_at : Option ℕ)
+    → (let s = (trial_meaning M blocks lines falls starts broken_at).state in s.other_views ≡ 0 → s.opening ≡ M.empty)

@@ -42,7 +42,7 @@ pub record IsWhole {V : Type 0} (M : Machine V) (B : Blocks) (run : Part V) (was
   pub explained : IsExplained run.state
   pub left : IsLeft M run.state now.disk
 
--- 0 and 6: the whole report of a script was written, with its last line, and the run is told to end with this status. The script
+-- 0, 6 and 7: the whole report of a script was written, with its last line, and the run is told to end with this status. The script
 -- is that of the source, where it tells one.
 pub record WroteReport {V : Type 0} (M : Machine V) (B : Blocks) (status : Status) (falls : List ℕ) (was now : Outer) : Type 0 where
   pub script : List ℕ
@@ -128,6 +128,7 @@ pub record WroteFront {V : Type 0} (M : Machine V) (B : Blocks) (falls : List �
 abbrev pub TrialDone : {V : Type 0} → Machine V → Blocks → Status → List ℕ → (was now : Outer) → Type 0
 TrialDone M B Status.Done falls was now = WroteReport M B Status.Done falls was now × IsAtEnd now.left
 TrialDone M B Status.ScriptFault falls was now = WroteReport M B Status.ScriptFault falls was now
+TrialDone M B Status.Locked falls was now = WroteReport M B Status.Locked falls was now × IsAtEnd now.left
 TrialDone M B Status.ReadFault falls was now = WroteToFault M B falls was now
 TrialDone M B Status.DiskFault falls was now = WroteBroken M B falls was now
 TrialDone M B Status.WriteFault falls was now = WroteFront M B falls was now
@@ -205,6 +206,7 @@ IsBuilt Status.ReadFault = Unit {0}
 IsBuilt Status.WriteFault = Unit {0}
 IsBuilt Status.DiskFault = Unit {0}
 IsBuilt Status.ScriptFault = Unit {0}
+IsBuilt Status.Locked = Unit {0}
 IsBuilt Status.OutOfMemory = Unit {0}
 IsBuilt _ = ⊥
 

@@ -96,6 +96,7 @@ pub record IsFailedMaking {V : Type 0} (ended : Result (Unit {0}) Halt) (was now
   pub found : now.disk.found ≡ []
   pub syncs : now.disk.syncs < was.disk.syncs + first_syncs
   pub armed : now.disk.armed ≡ []
+  pub falls : now.counts.falls.items ≡ []
   pub printed : now.taken ≡ was.taken
 
 -- a whole run

@@ -1,6 +1,7 @@
 -- The lines of a report.
-use Rattle.std.specs.Prelude.{ℕ, ◌+◌, ◌/◌, ◌%◌, nat_lt, Bool, true, false, if◌then◌else◌, List, [], ◌∷◌, ◌++◌, codes, decimal, flat_map}
+use Rattle.std.specs.Prelude.{ℕ, ◌+◌, ◌/◌, ◌%◌, nat_le, nat_lt, ◌||◌, Bool, true, false, if◌then◌else◌, List, [], ◌∷◌, ◌++◌, codes, decimal, flat_map}
 use Rattle.gd_base.specs.declared.device.Device.{Device}
+use Rattle.gd_base.specs.declared.limits.TheConstants.{MOST_ENTRIES}
 use Rattle.gd_base.specs.declared.refusal.Reply.{Reply}
 use Rattle.gd_base.specs.Texts.Names.{device_name, reply_text}
 use Rattle.gd_disk.specs.declared.side.Side.{Side}
@@ -26,6 +27,14 @@ repair_text RepairB = codes " repaired b"
 
 abbrev pub start_line : ℕ → Repair → List ℕ
 start_line n repair = codes "start at " ++ decimal n ++ repair_text repair ++ codes "\n"
+
+-- the sequence of a full history, in a copy and in the two that were found
+abbrev pub is_copy_full : CopyState → Bool
+is_copy_full (CopyState.Sound n) = nat_le MOST_ENTRIES n
+is_copy_full (CopyState.Bad why) = false
+
+abbrev pub is_found_full : Found → Bool
+is_found_full found = is_copy_full found.a || is_copy_full found.b
 
 -- there is no start where the history was full
 abbrev pub start_text : Bool → ℕ → Repair → List ℕ

@@ -25,6 +25,9 @@ is_built (Item.As number event) = is_built_event event
 is_built (Item.Again device) = true
 is_built Item.Off = true
 is_built Item.On = true
+is_built (Item.Cut unit count torn) = true
+is_built (Item.Alter side at mask) = true
+is_built Item.Clear = true
 is_built (Item.Show What.Meters) = true
 is_built (Item.Show What.State) = true
 is_built Item.Skip = true
@@ -34,6 +37,19 @@ is_built _ = false
 abbrev pub is_comment : Item → Bool
 is_comment Item.Skip = true
 is_comment _ = false
+
+abbrev pub is_cut : Item → Bool
+is_cut (Item.Cut unit count torn) = true
+is_cut _ = false
+
+-- an item about the machine
+abbrev pub needs_memory : Item → Bool
+needs_memory (Item.Event event) = true
+needs_memory (Item.OrderEvent kind order) = true
+needs_memory (Item.Again device) = true
+needs_memory (Item.As number event) = true
+needs_memory (Item.Show what) = true
+needs_memory _ = false
 
 abbrev pub built_of : Option Item → Option Item
 built_of None = None

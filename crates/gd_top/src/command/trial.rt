@@ -3,21 +3,22 @@
 ghost use Rattle.std.specs.Prelude.{◌≡◌, ◌≤◌, ◌⊎◌, true, false, [], Err};
 ghost use Rattle.gd_base.specs.Judging.SoFar.{machine_so_far};
 ghost use Rattle.gd_base.specs.Outside.Causes.{Rose};
+ghost use Rattle.gd_disk.specs.Disk.{IsSynced};
 ghost use Rattle.gd_top.specs.Claims.MemoryLeft.{IsAtRest, IsSettled};
 ghost use Rattle.gd_top.specs.Claims.Trial.{outer, status_after, last_text, GivesLast, HasCauses, TrialDone};
 ghost use Rattle.gd_top.specs.Code.LinesDone.{RunDone};
-ghost use Rattle.gd_top.specs.Code.Memory.{memory_core, memory_disk, memory_draws, memory_phase, memory_stopped, moment, moment_off, Leaves};
+ghost use Rattle.gd_top.specs.Code.Memory.{memory_core, memory_disk, memory_draws, memory_phase, memory_stopped, moment, moment_closed, IsFresh, Leaves, TellsApart};
 ghost use Rattle.gd_top.specs.FirstCore.View.{core_view};
 ghost use Rattle.gd_top.specs.Run.Life.{end_line, end_status};
-ghost use Rattle.gd_top.specs.Run.State.{Phase, Off};
-ghost use Rattle.gd_top.specs.declared.memory.Counts.{Counts as CountsData};
+ghost use Rattle.gd_top.specs.Run.State.{Off, Locked};
 
 use crate::ended::Falls;
 use crate::first_core::FirstCore;
 use crate::halt::Halt;
-use crate::item::power::open_memory;
+use crate::item::opening::reopen;
+use crate::memory::Memory;
+use crate::memory::counts::Counts;
 use crate::memory::making::make_memory;
-use crate::memory::{Counts, Memory};
 use crate::report::lines::{give_text, push_end_line, push_fault_line};
 use crate::script::carrying::carry_lines;
 use crate::script::reader::MOST_LINES;
@@ -53,19 +54,15 @@ pub(crate) fn run_trial<S: Source, K: Sink, L: LabDisk, W: Draws>(
     ensures causes { HasCauses result.status
         (outer S.left S.faults K.taken K.faults L.state input.old output.old parts.disk)
         (outer S.left S.faults K.taken K.faults L.state input.new output.new result.lab) }
-    ensures no_falls { result.falls.items ≡ [] }
 {
     let mut text = Text::new();
-    let mut counts = Counts {
-        lines: 0,
-        power_ons: 0,
-    };
+    let mut counts = Counts::new();
     let (memory, ended) = carry_script(parts, &mut counts, input, output, &mut text);
     let status = end_report(&memory, counts.lines, ended, output, &mut text);
     let parts = close(memory);
     TrialEnded {
         status,
-        falls: Falls::new(),
+        falls: counts.falls,
         lab: parts.disk,
         draws: parts.draws,
     }
@@ -84,13 +81,14 @@ fn carry_script<C: Core, S: Source, K: Sink, L: LabDisk, W: Draws>(
     requires is_on { (L.state parts.disk).is_on ≡ true }
     requires armed { (L.state parts.disk).armed ≡ [] }
     requires found { (L.state parts.disk).found ≡ [] }
-    requires counts { counts.old ≡ record { lines = 0; power_ons = 0 } }
+    requires tells { TellsApart (C.meaning parts.core) }
+    requires fresh { IsFresh counts.old }
     ensures done { RunDone result.1
-        (moment_off C.meaning C.view L.state W.block_of K.taken K.faults parts counts.old output.old)
+        (moment_closed Off C.meaning C.view L.state W.block_of K.taken K.faults parts counts.old output.old)
         (moment C.meaning C.view L.state W.block_of K.taken K.faults result.0 counts.new output.new)
         (S.left input.old) (S.left input.new) }
     ensures leaves { Leaves result.1
-        (moment_off C.meaning C.view L.state W.block_of K.taken K.faults parts counts.old output.old)
+        (moment_closed Off C.meaning C.view L.state W.block_of K.taken K.faults parts counts.old output.old)
         (moment C.meaning C.view L.state W.block_of K.taken K.faults result.0 counts.new output.new) }
     ensures lines { counts.new.lines ≤ MOST_LINES }
     ensures later { S.faults input.old ≤ S.faults input.new }
@@ -99,7 +97,7 @@ fn carry_script<C: Core, S: Source, K: Sink, L: LabDisk, W: Draws>(
 {
     match make_memory(parts) {
         Ok(made) => {
-            let (memory, ended) = open_memory(made, counts, output, text);
+            let (memory, ended) = reopen(made, counts, output, text);
             if ended.is_err() {
                 return (memory, ended);
             }
@@ -128,7 +126,7 @@ fn end_report<K: Sink, L: LabDisk, W: Draws>(
 {
     write_last(text, memory, lines, ended);
     match give_text(output, text) {
-        Ok(()) => status_after(ended),
+        Ok(()) => status_after(memory, ended),
         Err(_) => Status::WriteFault,
     }
 }
@@ -155,16 +153,29 @@ fn write_last<L: LabDisk, W: Draws>(
     }
 }
 
-/// The status of a run that ended so, over a memory that isn't locked.
-fn status_after(ended: Result<(), Halt>) -> Status
-    ensures { (phase : Phase) → end_status phase ≡ Status.Done → result ≡ status_after ended phase }
+/// The status of a run that ended so.
+fn status_after<C: Core, L: LabDisk, W: Draws>(
+    memory: &Memory<C, L, W>,
+    ended: Result<(), Halt>,
+) -> Status
+    ensures { result ≡ status_after ended (memory_phase memory.now) }
 {
     match ended {
-        Ok(()) => Status::Done,
+        Ok(()) => end_status(memory),
         Err(Halt::ScriptFault) => Status::ScriptFault,
         Err(Halt::ReadFault) => Status::ReadFault,
         Err(Halt::DiskFault) => Status::DiskFault,
         Err(Halt::WriteFault) => Status::WriteFault,
+    }
+}
+
+/// The status of a run whose input was read to its end.
+fn end_status<C: Core, L: LabDisk, W: Draws>(memory: &Memory<C, L, W>) -> Status
+    ensures { result ≡ end_status (memory_phase memory.now) }
+{
+    match memory {
+        Memory::On(_) | Memory::Off(_) => Status::Done,
+        Memory::Locked(_) => Status::Locked,
     }
 }
 
@@ -181,6 +192,7 @@ fn push_end<L: LabDisk, W: Draws>(text: &mut Text, memory: &Memory<FirstCore, L,
             push_end_line(text, books.count, books.balance);
         }
         Memory::Off(_) => text.push_str("end off\n"),
+        Memory::Locked(_) => text.push_str("end locked\n"),
     }
 }
 
@@ -189,11 +201,13 @@ fn close<C: Core, L: LabDisk, W: Draws>(memory: Memory<C, L, W>) -> Parts<C, L, 
     ensures disk { result.disk ≡ memory_disk memory }
     ensures draws { result.draws ≡ memory_draws memory }
     ensures at_rest { memory_stopped memory ≡ false → (memory_phase memory ≡ Off
-        → IsSettled (L.state (memory_disk memory)))
+        → IsSettled (L.state (memory_disk memory))) → (memory_phase memory ≡ Locked
+        → IsSynced (L.state (memory_disk memory)))
         → IsAtRest (memory_phase memory) (L.state result.disk) }
 {
     match memory {
         Memory::On(cabinet) => cabinet.close(),
         Memory::Off(parts) => parts,
+        Memory::Locked(parts) => parts,
     }
 }

@@ -1,51 +1,88 @@
-//! A line about the machine: an event that is offered, with the line of its answer, or a text.
+//! A line about the machine: an event that is offered until it is answered, or a text.
 
-ghost use Rattle.std.specs.Prelude.{◌≡◌, ◌≢◌, ℕ};
+ghost use Rattle.std.specs.Prelude.{◌≡◌, ◌≢◌, ◌≤◌, ◌+◌, ◌*◌, ℕ};
 ghost use Rattle.gd_base.specs.declared.step.Stepped.{Stepped as SteppedData};
 ghost use Rattle.gd_base.specs.Histories.Entry.{device_of};
+ghost use Rattle.gd_base.specs.Judging.Answer.{is_new};
 ghost use Rattle.gd_cabinet.specs.Answers.{cabinet_answer};
 ghost use Rattle.gd_script.specs.declared.item.Item.{Item};
-ghost use Rattle.gd_top.specs.Code.Memory.{moment, moment_on, CarriesOut, Leaves, Sits};
+ghost use Rattle.gd_top.specs.Code.Memory.{moment, moment_on, Does, Sits};
 ghost use Rattle.gd_top.specs.Report.AnswerText.{answer_text};
 ghost use Rattle.gd_top.specs.Run.Items.{event_meaning, item_meaning};
 ghost use Rattle.gd_top.specs.Script.Built.{next_of};
-ghost use Rattle.gd_top.specs.declared.memory.Counts.{Counts};
+ghost use Rattle.gd_top.specs.declared.memory.counts.Counts.{Counts as CountsData};
 
 use crate::halt::Halt;
+use crate::item::lock::tell_lock;
+use crate::item::opening::reopen;
 use crate::memory::Memory;
+use crate::memory::counts::Counts;
 use crate::report::lines::{
     give_text, push_answer_line, push_full_line, push_none_line, push_step_line,
 };
+use crate::script::reader::MOST_LINES;
 use gd_base::{Core, Device, Door, Draws, Event, MOST_ENTRIES, Numbered, Sink, Text, What};
 use gd_cabinet::{Answer, Cabinet};
 use gd_disk::LabDisk;
 
-/// Offers an event under its number, and prints its answer. It is a disk fault where a call to the disk failed, for no cut is
-/// armed. A write fault comes after the event was committed.
+/// Offers an event under its number, as often as a cut comes in that, and prints its answer. After a cut the memory is opened
+/// again; where it is locked then, the event is given up. A write fault comes after the event was committed, or in the lines of
+/// an opening.
 pub(crate) fn carry_event<C: Core, K: Sink, L: LabDisk, W: Draws>(
-    mut cabinet: Cabinet<C, L, W>,
+    cabinet: Cabinet<C, L, W>,
+    counts: &mut Counts,
     output: &mut K,
     text: &mut Text,
     e: &Numbered,
 ) -> (Memory<C, L, W>, Result<(), Halt>)
     requires not_start { e.now.event ≢ Event.Start }
-    requires sits { (k : Counts) → Sits
-        (moment_on C.meaning C.view L.state W.block_of K.taken K.faults cabinet k output.old) }
-    ensures carried { (k : Counts) → CarriesOut (λ M B. event_meaning M B e.now) result.1
-        (moment_on C.meaning C.view L.state W.block_of K.taken K.faults cabinet k output.old)
-        (moment C.meaning C.view L.state W.block_of K.taken K.faults result.0 k output.new) }
-    ensures leaves { (k : Counts) → Leaves result.1
-        (moment_on C.meaning C.view L.state W.block_of K.taken K.faults cabinet k output.old)
-        (moment C.meaning C.view L.state W.block_of K.taken K.faults result.0 k output.new) }
+    requires sits { Sits
+        (moment_on C.meaning C.view L.state W.block_of K.taken K.faults cabinet counts.old output.old) }
+    requires few { counts.old.offers + 1 ≤ MOST_LINES + 2 * counts.old.power_ons }
+    ensures does { Does (λ M B. event_meaning M B e.now) result.1
+        (moment_on C.meaning C.view L.state W.block_of K.taken K.faults cabinet counts.old output.old)
+        (moment C.meaning C.view L.state W.block_of K.taken K.faults result.0 counts.new output.new) }
+    ensures lines { counts.new.lines ≡ counts.old.lines }
+    ensures offers { counts.new.offers + 2 * counts.old.power_ons ≤ counts.old.offers + 1 + 2 * counts.new.power_ons }
 {
-    match cabinet.submit(e) {
-        Ok(answer) => {
-            write_answer(text, e, &answer);
-            let given = give_text(output, text);
-            (Memory::On(cabinet), given)
+    let mut cabinet = cabinet;
+    loop {
+        let armed = cabinet.cuts_armed();
+        match cabinet.submit(e) {
+            Ok(answer) => {
+                if is_new(&answer) {
+                    counts.offers += 1;
+                }
+                write_answer(text, e, &answer);
+                let given = give_text(output, text);
+                return (Memory::On(cabinet), given);
+            }
+            Err(_) => {
+                counts.offers += 1;
+                if cabinet.cuts_armed() >= armed {
+                    return (Memory::On(cabinet), Err(Halt::DiskFault));
+                }
+                counts.fall();
+                let (memory, ended) = reopen(cabinet.close(), counts, output, text);
+                if ended.is_err() {
+                    return (memory, ended);
+                }
+                match memory {
+                    Memory::On(opened) => cabinet = opened,
+                    Memory::Locked(parts) => return tell_lock(parts, output, text),
+                    Memory::Off(_) => unreachable!(),
+                }
+            }
         }
-        Err(_) => (Memory::On(cabinet), Err(Halt::DiskFault)),
     }
+}
+
+/// Whether an answer is that of a new event.
+fn is_new(answer: &Answer) -> bool
+    ensures { (stepped : SteppedData) (count : ℕ) → answer.now ≡ cabinet_answer stepped count
+        → result ≡ is_new stepped }
+{
+    matches!(answer, Answer::Ack { again: false, .. })
 }
 
 /// Writes the line of an answer over what stands in `text`.
@@ -81,19 +118,20 @@ pub(crate) fn next_numbered<C: Core>(core: &C, event: Event) -> Numbered
 /// Tells a device's last number once more, and prints the reply that was kept of it, or that there is none.
 pub(crate) fn carry_again<C: Core, K: Sink, L: LabDisk, W: Draws>(
     cabinet: Cabinet<C, L, W>,
+    counts: &mut Counts,
     output: &mut K,
     text: &mut Text,
     device: Device,
 ) -> (Memory<C, L, W>, Result<(), Halt>)
     requires not_power { device ≢ Device.Power }
-    requires sits { (k : Counts) → Sits
-        (moment_on C.meaning C.view L.state W.block_of K.taken K.faults cabinet k output.old) }
-    ensures carried { (k : Counts) → CarriesOut (λ M B. item_meaning M B (Item.Again device)) result.1
-        (moment_on C.meaning C.view L.state W.block_of K.taken K.faults cabinet k output.old)
-        (moment C.meaning C.view L.state W.block_of K.taken K.faults result.0 k output.new) }
-    ensures leaves { (k : Counts) → Leaves result.1
-        (moment_on C.meaning C.view L.state W.block_of K.taken K.faults cabinet k output.old)
-        (moment C.meaning C.view L.state W.block_of K.taken K.faults result.0 k output.new) }
+    requires sits { Sits
+        (moment_on C.meaning C.view L.state W.block_of K.taken K.faults cabinet counts.old output.old) }
+    requires few { counts.old.offers + 1 ≤ MOST_LINES + 2 * counts.old.power_ons }
+    ensures does { Does (λ M B. item_meaning M B (Item.Again device)) result.1
+        (moment_on C.meaning C.view L.state W.block_of K.taken K.faults cabinet counts.old output.old)
+        (moment C.meaning C.view L.state W.block_of K.taken K.faults result.0 counts.new output.new) }
+    ensures lines { counts.new.lines ≡ counts.old.lines }
+    ensures offers { counts.new.offers + 2 * counts.old.power_ons ≤ counts.old.offers + 1 + 2 * counts.new.power_ons }
 {
     let number = cabinet.core().last(device);
     if number == 0 {
@@ -104,6 +142,7 @@ pub(crate) fn carry_again<C: Core, K: Sink, L: LabDisk, W: Draws>(
     }
     carry_event(
         cabinet,
+        counts,
         output,
         text,
         &Numbered {
@@ -139,12 +178,9 @@ pub(crate) fn show<C: Core, K: Sink, L: LabDisk, W: Draws>(
     text: &mut Text,
     what: What,
 ) -> (Memory<C, L, W>, Result<(), Halt>)
-    requires sits { (k : Counts) → Sits
-        (moment_on C.meaning C.view L.state W.block_of K.taken K.faults cabinet k output.old) }
-    ensures carried { (k : Counts) → CarriesOut (λ M B. item_meaning M B (Item.Show what)) result.1
-        (moment_on C.meaning C.view L.state W.block_of K.taken K.faults cabinet k output.old)
-        (moment C.meaning C.view L.state W.block_of K.taken K.faults result.0 k output.new) }
-    ensures leaves { (k : Counts) → Leaves result.1
+    ensures { (k : CountsData)
+        → Sits (moment_on C.meaning C.view L.state W.block_of K.taken K.faults cabinet k output.old)
+        → Does (λ M B. item_meaning M B (Item.Show what)) result.1
         (moment_on C.meaning C.view L.state W.block_of K.taken K.faults cabinet k output.old)
         (moment C.meaning C.view L.state W.block_of K.taken K.faults result.0 k output.new) }
 {

@@ -1,34 +1,31 @@
-//! The making of an empty memory, at the beginning of a trial.
+//! The making of an empty memory, at the beginning of a trial or in place of a locked one.
 
-ghost use Rattle.std.specs.Prelude.{◌≡◌, ◌+◌, ◌<◌, true, [], IfOk, IfErr};
+ghost use Rattle.std.specs.Prelude.{◌≡◌, true, IfOk, IfErr};
 ghost use Rattle.gd_base.specs.Payloads.Spelled.{Shows};
-ghost use Rattle.gd_disk.specs.Disk.{Rose};
 ghost use Rattle.gd_store.specs.Room.{room_payload};
-ghost use Rattle.gd_top.specs.Code.Memory.{IsMade};
+ghost use Rattle.gd_top.specs.Code.Memory.{IsMade, IsUnmade};
 
 use gd_base::{Core, Draws};
 use gd_cabinet::Parts;
 use gd_disk::{DISK_LEN, LabDisk};
 use gd_store::{Made, Room, Store};
 
-/// Makes a memory of the core's view, which is the empty one, and turns the power off. It fails where the disk does.
+/// Makes a memory of the core's view, which is the empty one, and turns the power off. It fails where a cut comes in it, or the
+/// disk has a fault.
 pub(crate) fn make_memory<C: Core, L: LabDisk, W: Draws>(
     parts: Parts<C, L, W>,
 ) -> Result<Parts<C, L, W>, Parts<C, L, W>>
     requires empty { C.view parts.core ≡ (C.meaning parts.core).empty }
     requires size { (L.state parts.disk).size ≡ DISK_LEN }
     requires is_on { (L.state parts.disk).is_on ≡ true }
-    requires armed { (L.state parts.disk).armed ≡ [] }
     ensures made { IfOk result
         (λ made. IsMade (C.meaning parts.core) (C.view parts.core) (L.state parts.disk)
         (L.state made.disk)) }
     ensures core { IfOk result (λ made. made.core ≡ parts.core) }
     ensures draws { IfOk result (λ made. made.draws ≡ parts.draws) }
-    ensures fault { IfErr result
-        (λ left. Rose (L.state parts.disk).faults (L.state left.disk).faults) }
-    ensures few { IfErr result (λ left. (L.state left.disk).syncs < (L.state parts.disk).syncs + 5) }
-    ensures none { IfErr result (λ left. (L.state left.disk).found ≡ (L.state parts.disk).found) }
-    ensures stays_armed { IfErr result (λ left. (L.state left.disk).armed ≡ []) }
+    ensures unmade { IfErr result
+        (λ left. IsUnmade (C.meaning parts.core) (C.view parts.core) (L.state parts.disk)
+        (L.state left.disk)) }
     ensures kept { IfErr result (λ left. (left.core ≡ parts.core) × (left.draws ≡ parts.draws)) }
 {
     let Parts {

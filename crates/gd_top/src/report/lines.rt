@@ -5,10 +5,11 @@ ghost use Rattle.arrayvec.specs.ArrayString.{array_string_len};
 ghost use Rattle.gd_store.specs.Repair.{repair_needed};
 ghost use Rattle.gd_base.specs.Outside.Causes.{Rose};
 ghost use Rattle.gd_top.specs.Code.Parts.{GivesText};
-ghost use Rattle.gd_top.specs.Report.Lines.{answer_line, copy_text, full_line, none_line, power_line, repair_text, start_line, step_line};
+ghost use Rattle.gd_top.specs.Report.Lines.{altered_line, answer_line, copy_text, full_line, locked_line, none_line, power_line, repair_text, side_name, start_line, step_line};
 
 use crate::halt::Halt;
 use gd_base::{Device, Reply, Sink, TEXT_LEN, Text, push_count_line, push_number, push_reply};
+use gd_disk::Side;
 use gd_store::{CopyState, Found, Why};
 
 /// Gives the text to the sink, or it is a write fault.
@@ -147,6 +148,39 @@ pub(crate) fn push_none_line(text: &mut Text, device: Device)
     text.push_str("none ");
     text.push_str(device.name());
     text.push_str("\n");
+}
+
+/// Appends that the memory is locked. 7 bytes.
+pub(crate) fn push_locked_line(text: &mut Text)
+    requires { array_string_len text.old + 7 ≤ TEXT_LEN }
+    ensures bytes { text.new.bytes ≡ text.old.bytes ++ locked_line }
+    ensures room { array_string_len text.new ≤ array_string_len text.old + 7 }
+{
+    text.push_str("locked\n");
+}
+
+/// Appends the line of a byte that was altered, at this place in a copy. At most 31 bytes.
+pub(crate) fn push_altered_line(text: &mut Text, side: Side, at: u64)
+    requires { array_string_len text.old + 31 ≤ TEXT_LEN }
+    ensures bytes { text.new.bytes ≡ text.old.bytes ++ altered_line side at }
+    ensures room { array_string_len text.new ≤ array_string_len text.old + 31 }
+{
+    text.push_str("altered ");
+    text.push_str(side_name(side));
+    text.push_str(" ");
+    push_number(text, at);
+    text.push_str("\n");
+}
+
+/// The word of a copy.
+fn side_name(side: Side) -> &'static str
+    ensures name { result.now ≡ side_name side }
+    ensures length { length result.now ≡ 1 }
+{
+    match side {
+        Side::A => "a",
+        Side::B => "b",
+    }
 }
 
 /// Appends the last line of a run that ends with the power on: the entries recorded, and the balance in cents. At most 56

@@ -1,20 +1,25 @@
 //! The lines of a script, carried out one after another.
 
-ghost use Rattle.std.specs.Prelude.{◌≡◌, ◌≢◌, ◌≤◌, [], true, IfSome, Err, false};
+ghost use Rattle.std.specs.Prelude.{◌≡◌, ◌≢◌, ◌≤◌, ◌+◌, ◌*◌, [], true, IfSome, Err, false};
 ghost use Rattle.std.specs.Io.KnownBytes.{prepend_known};
 ghost use Rattle.gd_base.specs.Outside.Causes.{Rose};
 ghost use Rattle.gd_script.specs.Grammar.{InGrammar};
 ghost use Rattle.gd_top.specs.Code.LinesDone.{LinesDone};
-ghost use Rattle.gd_top.specs.Code.Memory.{moment, CarriesOut, Leaves, Sits};
-ghost use Rattle.gd_top.specs.Script.Built.{is_built, is_built_event, is_comment};
+ghost use Rattle.gd_top.specs.Code.Memory.{moment, Does, Leaves, Sits};
+ghost use Rattle.gd_top.specs.Script.Built.{is_built, is_built_event, is_comment, is_cut, needs_memory};
 ghost use Rattle.gd_top.specs.Run.Items.{item_meaning};
 ghost use Rattle.gd_top.specs.Script.LineTaken.{TakesEnd};
 ghost use Rattle.gd_top.specs.Script.Lines.{line_of};
 
 use crate::halt::Halt;
+use crate::item::altering::alter;
+use crate::item::arming::arm;
+use crate::item::clearing::clear;
 use crate::item::event::{carry_again, carry_event, next_numbered, show};
+use crate::item::lock::tell_lock;
 use crate::item::power::{turn_off, turn_on};
-use crate::memory::{Counts, Memory};
+use crate::memory::Memory;
+use crate::memory::counts::Counts;
 use crate::script::reader::{Ahead, LineBytes, MOST_LINES, next_byte, next_line};
 use gd_base::{Core, Draws, Event, Game, Numbered, Sink, Source, Text, What};
 use gd_disk::LabDisk;
@@ -31,6 +36,7 @@ pub(crate) fn carry_lines<C: Core, S: Source, K: Sink, L: LabDisk, W: Draws>(
     requires sits { Sits
         (moment C.meaning C.view L.state W.block_of K.taken K.faults memory counts.old output.old) }
     requires none { counts.old.lines ≡ 0 }
+    requires few { counts.old.offers ≤ 2 * counts.old.power_ons }
     ensures done { LinesDone result.1
         (moment C.meaning C.view L.state W.block_of K.taken K.faults memory counts.old output.old)
         (moment C.meaning C.view L.state W.block_of K.taken K.faults result.0 counts.new output.new)
@@ -85,7 +91,7 @@ fn expect_end<S: Source>(input: &mut S, ahead: &mut Ahead) -> Result<(), Halt>
     }
 }
 
-/// Carries out an item. It is a script fault where it has no place with the power as it is.
+/// Carries out an item.
 fn carry_item<C: Core, K: Sink, L: LabDisk, W: Draws>(
     memory: Memory<C, L, W>,
     counts: &mut Counts,
@@ -95,39 +101,87 @@ fn carry_item<C: Core, K: Sink, L: LabDisk, W: Draws>(
 ) -> (Memory<C, L, W>, Result<(), Halt>)
     requires sits { Sits
         (moment C.meaning C.view L.state W.block_of K.taken K.faults memory counts.old output.old) }
+    requires few { counts.old.offers + 1 ≤ MOST_LINES + 2 * counts.old.power_ons }
     requires grammar { InGrammar item }
     requires built { is_built item ≡ true }
     requires no_comment { is_comment item ≡ false }
-    ensures carried { CarriesOut (λ M B. item_meaning M B item) result.1
-        (moment C.meaning C.view L.state W.block_of K.taken K.faults memory counts.old output.old)
-        (moment C.meaning C.view L.state W.block_of K.taken K.faults result.0 counts.new output.new) }
-    ensures leaves { Leaves result.1
+    ensures does { Does (λ M B. item_meaning M B item) result.1
         (moment C.meaning C.view L.state W.block_of K.taken K.faults memory counts.old output.old)
         (moment C.meaning C.view L.state W.block_of K.taken K.faults result.0 counts.new output.new) }
     ensures lines { counts.new.lines ≡ counts.old.lines }
+    ensures offers { counts.new.offers + 2 * counts.old.power_ons ≤ counts.old.offers + 1 + 2 * counts.new.power_ons }
+{
+    match item {
+        Item::Cut { unit, count, torn } => arm(memory, counts, output, text, unit, count, torn),
+        _ => carry_in_phase(memory, counts, output, text, item),
+    }
+}
+
+/// Carries out an item other than a cut. It is a script fault where it has no place with the power as it is.
+fn carry_in_phase<C: Core, K: Sink, L: LabDisk, W: Draws>(
+    memory: Memory<C, L, W>,
+    counts: &mut Counts,
+    output: &mut K,
+    text: &mut Text,
+    item: Item,
+) -> (Memory<C, L, W>, Result<(), Halt>)
+    requires sits { Sits
+        (moment C.meaning C.view L.state W.block_of K.taken K.faults memory counts.old output.old) }
+    requires few { counts.old.offers + 1 ≤ MOST_LINES + 2 * counts.old.power_ons }
+    requires grammar { InGrammar item }
+    requires built { is_built item ≡ true }
+    requires no_comment { is_comment item ≡ false }
+    requires no_cut { is_cut item ≡ false }
+    ensures does { Does (λ M B. item_meaning M B item) result.1
+        (moment C.meaning C.view L.state W.block_of K.taken K.faults memory counts.old output.old)
+        (moment C.meaning C.view L.state W.block_of K.taken K.faults result.0 counts.new output.new) }
+    ensures lines { counts.new.lines ≡ counts.old.lines }
+    ensures offers { counts.new.offers + 2 * counts.old.power_ons ≤ counts.old.offers + 1 + 2 * counts.new.power_ons }
 {
     match memory {
         Memory::On(cabinet) => match item {
             Item::Event(event) => {
                 let e = next_numbered(cabinet.core(), event);
-                carry_event(cabinet, output, text, &e)
+                carry_event(cabinet, counts, output, text, &e)
             }
             Item::As { number, event } => carry_event(
                 cabinet,
+                counts,
                 output,
                 text,
                 &Numbered { number, event },
             ),
-            Item::Again(device) => carry_again(cabinet, output, text, device),
+            Item::Again(device) => carry_again(cabinet, counts, output, text, device),
             Item::Show(what) => show(cabinet, output, text, what),
             Item::Off => turn_off(cabinet, output, text),
             _ => (Memory::On(cabinet), Err(Halt::ScriptFault)),
         },
         Memory::Off(parts) => match item {
             Item::On => turn_on(parts, counts, output, text),
+            Item::Alter { side, at, mask } => alter(parts, output, text, side, at, mask),
             _ => (Memory::Off(parts), Err(Halt::ScriptFault)),
         },
+        Memory::Locked(parts) => match item {
+            Item::Clear => clear(parts, counts, output, text),
+            _ => {
+                if needs_memory(&item) {
+                    tell_lock(parts, output, text)
+                } else {
+                    (Memory::Locked(parts), Err(Halt::ScriptFault))
+                }
+            }
+        },
     }
+}
+
+/// Whether an item is about the machine, so that it needs an open memory.
+fn needs_memory(item: &Item) -> bool
+    ensures { result ≡ needs_memory item.now }
+{
+    matches!(
+        item,
+        Item::Event(_) | Item::OrderEvent { .. } | Item::Again(_) | Item::As { .. } | Item::Show(_)
+    )
 }
 
 /// The item that a line says, where it is built.
@@ -148,7 +202,13 @@ fn is_built(item: &Item) -> bool
 {
     match item {
         Item::Event(event) | Item::As { event, .. } => is_built_event(event),
-        Item::Again(_) | Item::Off | Item::On | Item::Skip => true,
+        Item::Again(_)
+        | Item::Off
+        | Item::On
+        | Item::Cut { .. }
+        | Item::Alter { .. }
+        | Item::Clear
+        | Item::Skip => true,
         Item::Show(What::Meters | What::State) => true,
         _ => false,
     }

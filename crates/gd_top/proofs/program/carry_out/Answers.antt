@@ -15,6 +15,13 @@ returns-clause-done g c = λ is.
     let now = outer g.S.Source.left g.S.Source.faults g.K.Sink.taken g.K.Sink.faults lab_state run.new.input run.new.output run.result.lab in
     (c.in_ok-lab.lab, subst (λ (blocks : Blocks). WroteReport (machine_so_far built_in_setup) blocks Status.Done run.result.falls.items was now) c.first_draws.ensures.blocks ((run.ensures.done is).0))
 
+pub returns-clause-locked : goal.returns-clause-locked
+returns-clause-locked g c = λ is.
+    let run = c.cabinet in
+    let was = outer g.S.Source.left g.S.Source.faults g.K.Sink.taken g.K.Sink.faults lab_state c.args.input.now c.args.output.now c.in_ok-lab.lab in
+    let now = outer g.S.Source.left g.S.Source.faults g.K.Sink.taken g.K.Sink.faults lab_state run.new.input run.new.output run.result.lab in
+    (c.in_ok-lab.lab, subst (λ (blocks : Blocks). WroteReport (machine_so_far built_in_setup) blocks Status.Locked run.result.falls.items was now) c.first_draws.ensures.blocks ((run.ensures.locked is).0))
+
 pub returns-clause-script_fault : goal.returns-clause-script_fault
 returns-clause-script_fault g c = λ is.
     let run = c.cabinet in

@@ -1,11 +1,13 @@
-use Rattle.std.proofs.Common.{sym, subst, ℕ, List, []}
+use Rattle.std.proofs.Common.{sym, subst}
 use Rattle.gd_base.specs.Judging.SoFar.{machine_so_far}
 use Rattle.gd_top.specs.Claims.MemoryLeft.{IsAtRest}
 use Rattle.gd_top.specs.Claims.Trial.{outer, HasCauses, TrialDone}
-use Rattle.gd_top.specs.Code.Memory.{memory_disk, memory_phase, moment, moment_off}
+use Rattle.gd_top.specs.Code.Memory.{memory_disk, memory_phase, moment, moment_closed}
 use Rattle.gd_top.specs.FirstCore.View.{core_view}
+use Rattle.gd_top.specs.Run.State.{Off}
 use Rattle.gd_top.specs.declared.first_core.FirstCore.{FirstCore}
-use Rattle.gd_top.proofs.TrialLemmas.Ends.{causes, memory_ends}
+use Rattle.gd_top.proofs.FirstCoreLemmas.Apart.{so_far_apart}
+use Rattle.gd_top.proofs.TrialLemmas.Ends.{causes}
 use Rattle.gd_top.proofs.TrialLemmas.Told.{trial_done}
 use Rattle.gd_top.proofs.command.trial.run_trial.Goals as goal
 
@@ -15,7 +17,7 @@ returns-clause-done g c =
     let memory = ran.result.0 in
     let status = c.end_report-status.result in
     let meaning = λ (core : FirstCore). machine_so_far core.setup in
-    let was = moment_off meaning core_view g.L.Disk.state g.W.Draws.block_of g.K.Sink.taken g.K.Sink.faults c.args.parts (record { lines = 0; power_ons = 0 }) c.args.output.now in
+    let was = moment_closed Off meaning core_view g.L.Disk.state g.W.Draws.block_of g.K.Sink.taken g.K.Sink.faults c.args.parts c.new-counts.result c.args.output.now in
     let now = moment meaning core_view g.L.Disk.state g.W.Draws.block_of g.K.Sink.taken g.K.Sink.faults memory ran.new.counts ran.new.output in
     let M = machine_so_far c.args.parts.core.setup in
     let B = g.W.Draws.block_of c.args.parts.draws in
@@ -26,11 +28,10 @@ returns-clause-done g c =
     (g.K.Sink.faults c.end_report-status.new.output) ran.result.1 status ran.ensures.done ran.ensures.leaves
     (λ serves.
     let sits = ran.ensures.leaves.sits serves in
-    subst (λ disk. IsAtRest (memory_phase memory) (g.L.Disk.state disk)) rest.disk (rest.at_rest sits.runs sits.settled))
-    (memory_ends memory) ran.ensures.read_fault c.end_report-status.ensures.last in
+    subst (λ disk. IsAtRest (memory_phase memory) (g.L.Disk.state disk)) rest.disk (rest.at_rest sits.runs sits.settled sits.synced))
+    ran.ensures.read_fault c.end_report-status.ensures.last in
     let after = outer g.S.Source.left g.S.Source.faults g.K.Sink.taken g.K.Sink.faults g.L.Disk.state ran.new.input c.end_report-status.new.output in
-    subst (λ (falls : List ℕ). TrialDone M B status falls before (after c.close-parts.result.disk)) (sym c.new.ensures)
-    (subst (λ disk. TrialDone M B status [] before (after disk)) (sym rest.disk) told)
+    subst (λ disk. TrialDone M B status ran.new.counts.falls.items before (after disk)) (sym rest.disk) told
 
 pub returns-clause-causes : goal.returns-clause-causes
 returns-clause-causes g c =
@@ -42,5 +43,13 @@ returns-clause-causes g c =
     let leaves = ran.ensures.leaves in
     let last = c.end_report-status.ensures in
     subst (λ disk. HasCauses status before (after disk)) (sym c.close-parts.ensures.disk)
-    (causes status before (after (memory_disk memory)) ran.result.1 (memory_phase memory) (g.K.Sink.faults ran.new.output) (memory_ends memory) last.cause leaves.later last.later ran.ensures.read_fault
+    (causes status before (after (memory_disk memory)) ran.result.1 (memory_phase memory) (g.K.Sink.faults ran.new.output) last.cause leaves.later last.later ran.ensures.read_fault
     leaves.write_fault leaves.disk_fault)
+
+pub carry_script-memory-requires-clause-tells : goal.carry_script-memory-requires-clause-tells
+carry_script-memory-requires-clause-tells g c = so_far_apart c.args.parts.core.setup
+
+pub carry_script-memory-requires-clause-fresh : goal.carry_script-memory-requires-clause-fresh
+carry_script-memory-requires-clause-fresh g c =
+    let k = c.new-counts.ensures in
+    record { lines = k.lines; power_ons = k.power_ons; lap = k.lap; offers = k.offers; calls = k.calls; falls = k.falls }

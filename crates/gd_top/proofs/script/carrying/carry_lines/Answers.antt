@@ -6,8 +6,7 @@ use Rattle.gd_top.specs.declared.halt.Halt.{Halt}
 use Rattle.gd_top.specs.declared.script.reader.TheConstants.{MOST_LINES}
 use Rattle.gd_top.proofs.ItemLemmas.Lines.{comment_is, comment_out, no_item}
 use Rattle.gd_top.proofs.LineLemmas.Exits.{lines_none, lines_end, lines_halt, lines_past}
-use Rattle.gd_top.proofs.LineLemmas.Steps.{line_halts, line_goes, leaves_then, recounted, went_on, taken_whole, taken_none}
-use Rattle.gd_top.proofs.RunLemmas.Standings.{reads_nothing}
+use Rattle.gd_top.proofs.LineLemmas.Steps.{line_halts, line_goes, leaves_as, leaves_at_end, leaves_at_line, leaves_then, recounted, went_on, taken_whole, taken_none}
 use Rattle.gd_top.proofs.ScriptLemmas.Reading.{source_at_end}
 use Rattle.gd_top.proofs.script.carrying.carry_lines.Goals as goal
 
@@ -26,6 +25,7 @@ loop-init g c =
         blocks = λ lap index. refl;
       };
       lines = c.requires.none;
+      few = omega (arith, c.requires.few);
       reads = omega arith;
     }
 
@@ -38,20 +38,17 @@ returns-then-is_err-clause-done g c =
     let few : mid.counts.lines < MOST_LINES = omega (arith, c.loop.invariant.lines, c.loop-test.true) in
     line_halts was mid next c.carry_item-next.result.1 _ _ _ _ line c.as_slice.result.now c.loop.invariant.so_far c.loop.invariant.leaves few c.as_slice.ensures.value c.next_line.ensures.no_end
     (taken_whole _ _ line c.in-Ok-true.field-0 c.in-Ok-true.field-0-test c.in-Ok-true.ensures.taken) (sym c.is_err.ensures.value ∙ c.if-is_err.true)
-    (subst (λ l. CarriesOut (λ M B. built_line M B l) c.carry_item-next.result.1 mid next) c.in-Some.ensures.item c.carry_item-next.ensures.carried)
+    (subst (λ l. CarriesOut (λ M B. built_line M B l) c.carry_item-next.result.1 mid next) c.in-Some.ensures.item c.carry_item-next.ensures.does.carried)
 
 pub returns-then-is_err-clause-read_fault : goal.returns-then-is_err-clause-read_fault
-returns-then-is_err-clause-read_fault g c = λ is.
-    let mid = moment g.C.Core.meaning g.C.Core.view g.L.Disk.state g.W.Draws.block_of g.K.Sink.taken g.K.Sink.faults c.loop.memory c.loop.counts c.loop.output in
-    let next = moment g.C.Core.meaning g.C.Core.view g.L.Disk.state g.W.Draws.block_of g.K.Sink.taken g.K.Sink.faults c.carry_item-next.result.0 c.carry_item-next.new.counts c.carry_item-next.new.output in
-    absurd (reads_nothing (λ M B. built_line M B (line_of c.as_slice.result.now)) c.carry_item-next.result.1 mid next (subst (λ l. CarriesOut (λ M B. built_line M B l) c.carry_item-next.result.1 mid next) c.in-Some.ensures.item c.carry_item-next.ensures.carried) is)
+returns-then-is_err-clause-read_fault g c = λ is. absurd (c.carry_item-next.ensures.does.reads_nothing is)
 
 pub returns-then-is_err-clause-leaves : goal.returns-then-is_err-clause-leaves
 returns-then-is_err-clause-leaves g c =
     let was = moment g.C.Core.meaning g.C.Core.view g.L.Disk.state g.W.Draws.block_of g.K.Sink.taken g.K.Sink.faults c.args.memory c.args.counts.now c.args.output.now in
     let mid = moment g.C.Core.meaning g.C.Core.view g.L.Disk.state g.W.Draws.block_of g.K.Sink.taken g.K.Sink.faults c.loop.memory c.loop.counts c.loop.output in
     let next = moment g.C.Core.meaning g.C.Core.view g.L.Disk.state g.W.Draws.block_of g.K.Sink.taken g.K.Sink.faults c.carry_item-next.result.0 c.carry_item-next.new.counts c.carry_item-next.new.output in
-    leaves_then was mid next c.carry_item-next.result.1 c.loop.invariant.leaves c.carry_item-next.ensures.leaves
+    leaves_then was mid next c.carry_item-next.result.1 c.loop.invariant.leaves c.carry_item-next.ensures.does.leaves
 
 pub returns-in_default-clause-done : goal.returns-in_default-clause-done
 returns-in_default-clause-done g c =
@@ -74,6 +71,7 @@ loop-preserved-then-is_comment g c =
           (comment_out mid (line_of c.as_slice.result.now) c.in-Some.item c.in-Some.ensures.item (comment_is c.in-Some.item (sym c.is_comment.ensures ∙ c.if-is_comment.true)));
       leaves = recounted was mid (Ok tt) _ c.loop.invariant.leaves;
       lines = ap (λ (n : ℕ). n + 1) c.loop.invariant.lines;
+      few = omega (arith, c.loop.invariant.few);
       reads = omega (arith, c.loop.invariant.reads, c.next_line.ensures.later);
     }
 
@@ -108,9 +106,10 @@ loop-preserved g c =
     record {
       so_far = line_goes was mid next c.carry_item-next.result.1 _ _ _ line c.as_slice.result.now c.loop.invariant.so_far c.loop.invariant.leaves few c.as_slice.ensures.value c.next_line.ensures.no_end
           (taken_whole _ _ line c.in-Ok-true.field-0 c.in-Ok-true.field-0-test c.in-Ok-true.ensures.taken) went
-          (subst (λ l. CarriesOut (λ M B. built_line M B l) c.carry_item-next.result.1 mid next) c.in-Some.ensures.item c.carry_item-next.ensures.carried);
-      leaves = recounted was next (Ok tt) _ (leaves_then was mid next (Ok tt) c.loop.invariant.leaves (subst (λ (r : Result (Unit {0}) Halt). Leaves r mid next) went c.carry_item-next.ensures.leaves));
+          (subst (λ l. CarriesOut (λ M B. built_line M B l) c.carry_item-next.result.1 mid next) c.in-Some.ensures.item c.carry_item-next.ensures.does.carried);
+      leaves = recounted was next (Ok tt) _ (leaves_then was mid next (Ok tt) c.loop.invariant.leaves (subst (λ (r : Result (Unit {0}) Halt). Leaves r mid next) went c.carry_item-next.ensures.does.leaves));
       lines = ap (λ (n : ℕ). n + 1) (c.carry_item-next.ensures.lines ∙ c.loop.invariant.lines);
+      few = omega (arith, c.loop.invariant.few, c.carry_item-next.ensures.offers);
       reads = omega (arith, c.loop.invariant.reads, c.next_line.ensures.later);
     }
 
@@ -121,3 +120,24 @@ returns-clause-done g c =
     λ s fits.
     let k = c.loop.invariant.so_far s fits in
     (k.0, (λ serves. k.1), lines_past was.machine was.blocks c.expect_end.result s k.0 (outside was) (outside mid) mid.disk _ _ _ _ k.2 (omega (arith, k.1.lines, c.loop.invariant.lines, c.loop-test.false, c.loop.auto.counter-end)) c.expect_end.ensures.empty c.expect_end.ensures.taken)
+
+pub carry_item-next-requires-clause-sits : goal.carry_item-next-requires-clause-sits
+carry_item-next-requires-clause-sits g c = c.loop.invariant.leaves.sits tt
+
+pub returns-in_default-clause-leaves : goal.returns-in_default-clause-leaves
+returns-in_default-clause-leaves g c =
+    let was = moment g.C.Core.meaning g.C.Core.view g.L.Disk.state g.W.Draws.block_of g.K.Sink.taken g.K.Sink.faults c.args.memory c.args.counts.now c.args.output.now in
+    let mid = moment g.C.Core.meaning g.C.Core.view g.L.Disk.state g.W.Draws.block_of g.K.Sink.taken g.K.Sink.faults c.loop.memory c.loop.counts c.loop.output in
+    leaves_as was mid (Err Halt.ScriptFault) (λ is. cc is) (λ is. cc is) c.loop.invariant.leaves
+
+pub returns-in-Err-clause-leaves : goal.returns-in-Err-clause-leaves
+returns-in-Err-clause-leaves g c =
+    let was = moment g.C.Core.meaning g.C.Core.view g.L.Disk.state g.W.Draws.block_of g.K.Sink.taken g.K.Sink.faults c.args.memory c.args.counts.now c.args.output.now in
+    let mid = moment g.C.Core.meaning g.C.Core.view g.L.Disk.state g.W.Draws.block_of g.K.Sink.taken g.K.Sink.faults c.loop.memory c.loop.counts c.loop.output in
+    leaves_at_line was mid c.in-Err.halt _ _ c.next_line.new.line.items c.in-Err.ensures.taken c.loop.invariant.leaves
+
+pub returns-clause-leaves : goal.returns-clause-leaves
+returns-clause-leaves g c =
+    let was = moment g.C.Core.meaning g.C.Core.view g.L.Disk.state g.W.Draws.block_of g.K.Sink.taken g.K.Sink.faults c.args.memory c.args.counts.now c.args.output.now in
+    let mid = moment g.C.Core.meaning g.C.Core.view g.L.Disk.state g.W.Draws.block_of g.K.Sink.taken g.K.Sink.faults c.loop.memory c.loop.counts c.loop.output in
+    leaves_at_end was mid c.expect_end.result _ _ c.expect_end.ensures.taken c.loop.invariant.leaves

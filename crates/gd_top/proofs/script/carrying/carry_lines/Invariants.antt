@@ -1,4 +1,4 @@
-use Rattle.std.proofs.Common.{◌≡◌, ◌≤◌, Ok}
+use Rattle.std.proofs.Common.{◌≡◌, ◌≤◌, ◌+◌, ◌*◌, Ok}
 use Rattle.std.specs.Io.KnownBytes.{prepend_known}
 use Rattle.gd_top.specs.Code.LinesDone.{LinesSoFar}
 use Rattle.gd_top.specs.Code.Memory.{moment, outside, Fits, Leaves}
@@ -16,5 +16,6 @@ invariant-loop g l =
           × LinesSoFar was.machine (lines_meaning was.machine was.blocks) s t (outside was) (outside now) (g.S.Source.left l.fn.input) (prepend_known l.ahead (g.S.Source.left l.input));
       leaves : Leaves (Ok tt) was now;
       lines : l.counts.lines ≡ l.counter;
+      few : l.counts.offers ≤ l.counter + 2 * l.counts.power_ons;
       reads : g.S.Source.faults l.fn.input ≤ g.S.Source.faults l.input;
     }

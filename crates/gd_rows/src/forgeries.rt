@@ -1,0 +1,212 @@
+//! Copies that were altered and whose seal matches again.
+
+use crate::left::{Left, SOUND_2, expect_whole, push_words};
+use crate::masks::{EARLIER, FULL, LATER, MISCOUNTED, NEARLY_FULL, RICHER, UNBALANCED};
+use crate::runs::{lines, report, zeros};
+use gd_store::{CopyState, Found};
+use gd_top::Status;
+use std::alloc::Global;
+use std::process::Abort;
+use std::test::Fail;
+
+/// A copy whose seal matches again.
+#[derive(Drop)]
+struct Forgery<'a> {
+    /// The lines before the power is off, and those that they print.
+    before: &'a [&'a str],
+    printed: &'a [&'a str],
+    /// The masks on copy a, and those on copy b.
+    a: &'a [&'a [(&'a str, &'a str)]],
+    b: &'a [&'a [(&'a str, &'a str)]],
+    /// The lines behind `on`, and the report from there.
+    behind: &'a [&'a str],
+    report: &'a [&'a str],
+    status: Status,
+    left: Left,
+}
+
+const BILL: &[&str] = &["bill 500"];
+
+const BILL_TAKEN: &[&str] = &["ack bill 1 taken at 2"];
+
+/// The mask that shuts an open gate.
+const GATE: &[(&str, &str)] = &[("0", "255")];
+
+#[rattlefmt::skip]
+const LATER_COPIES: &[Forgery] = &[
+    // A later sequence and another view, in either copy: the forged view is opened, and the other copy is written anew.
+    Forgery {
+        before: &[], printed: &[], a: &[LATER], b: &[],
+        behind: &["show state", "as 6 bill 100", "bill 500"],
+        report: &["power 2: a sound 7, b sound 1", "start at 8 repaired b", "credit 900", "condition none", "order none", "handpay none", "play none",
+            "again bill 6 taken at 8", "ack bill 7 taken at 9", "end at 9 credit 1400"],
+        status: Status::Done, left: Left::Sound(9),
+    },
+    Forgery {
+        before: &[], printed: &[], a: &[], b: &[LATER],
+        behind: &["bill 500"],
+        report: &["power 2: a sound 1, b sound 7", "start at 8 repaired a", "ack bill 7 taken at 9", "end at 9 credit 1400"],
+        status: Status::Done, left: Left::Sound(9),
+    },
+];
+
+/// A forged copy of a later sequence is opened.
+#[test]
+fn a_forged_copy_of_a_later_sequence(rt: HostRuntime) -> Result<(), Fail> {
+    expect_each(&rt, rt.alloc(), LATER_COPIES)
+}
+
+#[rattlefmt::skip]
+const PASSED_OVER: &[Forgery] = &[
+    // The same behind a shut gate: the forged copy is written anew.
+    Forgery {
+        before: &[], printed: &[], a: &[LATER, GATE], b: &[],
+        behind: &["bill 500"],
+        report: &["power 2: a shut, b sound 1", "start at 2 repaired a", "ack bill 1 taken at 3", "end at 3 credit 500"],
+        status: Status::Done, left: Left::Sound(3),
+    },
+    // An earlier sequence: the forged copy is written anew.
+    Forgery {
+        before: BILL, printed: BILL_TAKEN, a: &[], b: &[EARLIER],
+        behind: &["again bill"],
+        report: &["power 2: a sound 2, b sound 1", "start at 3 repaired b", "again bill 1 taken at 3", "end at 3 credit 500"],
+        status: Status::Done, left: Left::Sound(3),
+    },
+];
+
+/// A forged copy that is shut or of an earlier sequence is passed over.
+#[test]
+fn a_forged_copy_that_is_passed_over(rt: HostRuntime) -> Result<(), Fail> {
+    expect_each(&rt, rt.alloc(), PASSED_OVER)
+}
+
+#[rattlefmt::skip]
+const OTHER_VIEWS: &[Forgery] = &[
+    // The same sequence and another view in one copy: the memory is locked.
+    Forgery {
+        before: BILL, printed: BILL_TAKEN, a: &[RICHER], b: &[],
+        behind: &["show state"],
+        report: &["power 2: a sound 2, b sound 2", "locked", "locked", "end locked"],
+        status: Status::Locked, left: Left::Locked(SOUND_2),
+    },
+];
+
+/// A forged copy of the same sequence locks the memory.
+#[test]
+fn a_forged_copy_of_the_same_sequence(rt: HostRuntime) -> Result<(), Fail> {
+    expect_each(&rt, rt.alloc(), OTHER_VIEWS)
+}
+
+#[rattlefmt::skip]
+const IN_BOTH: &[Forgery] = &[
+    // In both copies: the forged view is opened.
+    Forgery {
+        before: BILL, printed: BILL_TAKEN, a: &[RICHER], b: &[RICHER],
+        behind: &["again bill"],
+        report: &["power 2: a sound 2, b sound 2", "start at 3", "again bill 1 taken at 3", "end at 3 credit 2000"],
+        status: Status::Done, left: Left::Sound(3),
+    },
+];
+
+/// A view that was forged in both copies is opened.
+#[test]
+fn both_copies_forged(rt: HostRuntime) -> Result<(), Fail> {
+    expect_each(&rt, rt.alloc(), IN_BOTH)
+}
+
+#[rattlefmt::skip]
+const NO_VIEWS: &[Forgery] = &[
+    // A sequence that isn't the count of the payload, and a payload that spells no view: the memory is locked, though the
+    // other copy is whole.
+    Forgery {
+        before: &[], printed: &[], a: &[MISCOUNTED], b: &[],
+        behind: &["bill 500"],
+        report: &["power 2: a sound 9, b sound 1", "locked", "locked", "end locked"],
+        status: Status::Locked, left: Left::Locked(Found { a: CopyState::Sound(9), b: CopyState::Sound(1) }),
+    },
+    Forgery {
+        before: &[], printed: &[], a: &[], b: &[UNBALANCED],
+        behind: &["clear"],
+        report: &["power 2: a sound 1, b sound 2", "locked", "cleared", "power 3: a sound 0, b sound 0", "start at 1", "end at 1 credit 0"],
+        status: Status::Done, left: Left::Sound(1),
+    },
+];
+
+/// A forged copy that shows no view locks the memory.
+#[test]
+fn a_forged_copy_of_no_view(rt: HostRuntime) -> Result<(), Fail> {
+    expect_each(&rt, rt.alloc(), NO_VIEWS)
+}
+
+#[rattlefmt::skip]
+const FULL_HISTORIES: &[Forgery] = &[
+    // There is no start, and no further entry. Repeats and steps are as ever, also behind a loss of power.
+    Forgery {
+        before: &[], printed: &[], a: &[FULL], b: &[],
+        behind: &["bill 500", "again bill", "as 7 bill 500", "play reels 1", "off", "on", "again bill", "take"],
+        report: &["power 2: a sound 68719476736, b sound 1", "full bill", "again bill 68719476735 taken at 68719476736", "step bill expected 68719476736", "full player",
+            "off", "power 3: a sound 68719476736, b sound 68719476736", "again bill 68719476735 taken at 68719476736", "full player", "end at 68719476736 credit 500"],
+        status: Status::Done, left: Left::Sound(68_719_476_736),
+    },
+    // The start is the last entry.
+    Forgery {
+        before: &[], printed: &[], a: &[], b: &[NEARLY_FULL],
+        behind: &["bill 500", "again bill"],
+        report: &["power 2: a sound 1, b sound 68719476735", "start at 68719476736 repaired a", "full bill", "again bill 68719476734 taken at 68719476736", "end at 68719476736 credit 500"],
+        status: Status::Done, left: Left::Sound(68_719_476_736),
+    },
+];
+
+/// A forged copy of a full history: no other trial comes to one.
+#[test]
+fn a_forged_full_history(rt: HostRuntime) -> Result<(), Fail> {
+    expect_each(&rt, rt.alloc(), FULL_HISTORIES)
+}
+
+/// Runs a trial of each of these forgeries.
+fn expect_each(rt: &impl Abort, alloc: Global, forgeries: &[Forgery]) -> Result<(), Fail> {
+    for forgery in forgeries {
+        expect_forged(rt, alloc, forgery)?;
+    }
+    Ok(())
+}
+
+/// Runs a trial of a forgery.
+fn expect_forged(rt: &impl Abort, alloc: Global, forgery: &Forgery) -> Result<(), Fail> {
+    let mut script = lines(alloc, forgery.before)?;
+    let mut wanted = report(alloc, forgery.printed)?;
+    script.extend_from_slice(b"off\n")?;
+    wanted.extend_from_slice(b"off\n")?;
+    for masks in forgery.a {
+        push_masks(&mut script, &mut wanted, "a ", masks)?;
+    }
+    for masks in forgery.b {
+        push_masks(&mut script, &mut wanted, "b ", masks)?;
+    }
+    script.extend_from_slice(b"on\n")?;
+    script.extend_from_slice(&lines(alloc, forgery.behind)?)?;
+    wanted.extend_from_slice(&lines(alloc, forgery.report)?)?;
+    expect_whole(
+        rt,
+        alloc,
+        zeros(alloc),
+        script,
+        forgery.status,
+        &wanted,
+        forgery.left,
+    )
+}
+
+/// Appends the lines that put masks on a copy, and what they print.
+pub(crate) fn push_masks(
+    script: &mut Vec<u8>,
+    wanted: &mut Vec<u8>,
+    side: &str,
+    masks: &[(&str, &str)],
+) -> Result<(), Fail> {
+    for (place, mask) in masks {
+        push_words(script, &["alter ", side, *place, " ", *mask, "\n"])?;
+        push_words(wanted, &["altered ", side, *place, "\n"])?;
+    }
+    Ok(())
+}

@@ -1,0 +1,148 @@
+//! Trials by what they leave: copies that are sound, damaged or locked, with the power on or off.
+
+use crate::runs::{are_sound, lines, report, trial_with_draws};
+use gd_base::{Draws, MemorySource};
+use gd_disk::{DISK_LEN, LabDisk, MemoryLab};
+use gd_store::{Booted, CopyState, Found, Room, Why, boot};
+use gd_top::Status;
+use std::alloc::Global;
+use std::process::Abort;
+use std::test::Fail;
+
+/// What a trial leaves.
+#[derive(Clone, Copy, Debug, PartialEq, Eq, Drop)]
+pub(crate) enum Left {
+    /// The power on, and both copies sound at this count.
+    Sound(u64),
+    /// The power on over copies that are found so.
+    Locked(Found),
+    /// The power off. At the next power-on the copies are found so.
+    Off(Found),
+}
+
+/// A trial over a new memory.
+#[derive(Drop)]
+pub(crate) struct Altered<'a> {
+    /// The lines of the script.
+    pub(crate) script: &'a [&'a str],
+    pub(crate) status: Status,
+    /// The lines of the report behind those of the opening.
+    pub(crate) report: &'a [&'a str],
+    pub(crate) left: Left,
+}
+
+/// The most bytes of a report.
+pub(crate) const ROOM: usize = 40_000;
+
+pub(crate) const SHUT: CopyState = CopyState::Bad(Why::Shut);
+
+/// Both copies of a memory that was made.
+pub(crate) const SOUND_0: Found = Found {
+    a: CopyState::Sound(0),
+    b: CopyState::Sound(0),
+};
+
+/// Both copies sound at the count 1, and at the count 2.
+pub(crate) const SOUND_1: Found = Found {
+    a: CopyState::Sound(1),
+    b: CopyState::Sound(1),
+};
+
+pub(crate) const SOUND_2: Found = Found {
+    a: CopyState::Sound(2),
+    b: CopyState::Sound(2),
+};
+
+/// Runs a trial of this script with these draws: its status, its whole report and what it leaves are as wanted.
+pub(crate) fn expect_whole<W: Draws + Drop>(
+    rt: &impl Abort,
+    alloc: Global,
+    draws: W,
+    script: Vec<u8>,
+    status: Status,
+    report: &[u8],
+    left: Left,
+) -> Result<(), Fail> {
+    let source = MemorySource::of(script, None);
+    let lab = MemoryLab::new(alloc, DISK_LEN)?;
+    let run = trial_with_draws(alloc, &["trial"], source, ROOM, lab, draws)?;
+    assert_eq!(rt; run.status, status);
+    assert_eq!(rt; run.output.bytes(), report);
+    expect_left(rt, alloc, run.lab, left)
+}
+
+/// The same of a row.
+pub(crate) fn expect<W: Draws + Drop>(
+    rt: &impl Abort,
+    alloc: Global,
+    draws: W,
+    wanted: &Altered,
+) -> Result<(), Fail> {
+    let script = lines(alloc, wanted.script)?;
+    let report = report(alloc, wanted.report)?;
+    expect_whole(
+        rt,
+        alloc,
+        draws,
+        script,
+        wanted.status,
+        &report,
+        wanted.left,
+    )
+}
+
+/// The laboratory is left so.
+pub(crate) fn expect_left<L: LabDisk + Drop>(
+    rt: &impl Abort,
+    alloc: Global,
+    mut lab: L,
+    left: Left,
+) -> Result<(), Fail> {
+    match left {
+        Left::Sound(count) => {
+            assert_eq!(rt; lab.powered(), true);
+            are_sound(rt, alloc, lab, count)
+        }
+        Left::Locked(wanted) => {
+            assert_eq!(rt; lab.powered(), true);
+            are_found(rt, alloc, lab, wanted)
+        }
+        Left::Off(wanted) => {
+            if lab.powered() {
+                return Err(Fail::new("the power is on"));
+            }
+            if lab.power_on().is_err() {
+                return Err(Fail::new("the power stays off"));
+            }
+            are_found(rt, alloc, lab, wanted)
+        }
+    }
+}
+
+/// The copies are found so.
+pub(crate) fn are_found<L: LabDisk + Drop>(
+    rt: &impl Abort,
+    alloc: Global,
+    mut lab: L,
+    wanted: Found,
+) -> Result<(), Fail> {
+    let mut room = Room::new(alloc)?;
+    if lab.len() != DISK_LEN {
+        return Err(Fail::new("another length"));
+    }
+    match boot(&mut lab, &mut room) {
+        Booted::Ready { found, .. } | Booted::Lost(found) => {
+            assert_eq!(rt; found, wanted);
+            Ok(())
+        }
+        Booted::Off => Err(Fail::new("no copy was read")),
+    }
+}
+
+/// Appends words.
+pub(crate) fn push_words(bytes: &mut Vec<u8>, words: &[&str]) -> Result<(), Fail> {
+    for word in words {
+        bytes.extend_from_slice(word.as_bytes())?;
+    }
+    Ok(())
+}
