@@ -4,7 +4,6 @@ use Rattle.std.proofs.Common.{ap, ◌∙◌, sym}
 use Rattle.std.proofs.lemmas.Bool.{eqb-true}
 use Rattle.gd_base.proofs.BoolTests.{both, all_told}
 use Rattle.gd_base.specs.declared.event.Event.{Event}
-use Rattle.gd_base.specs.declared.game.Game.{Game}
 use Rattle.gd_base.specs.declared.play.PlayRecord.{PlayRecord}
 use Rattle.gd_base.specs.declared.play.StageOpen.{StageOpen}
 use Rattle.gd_base.specs.declared.setup.Setup.{Setup}
@@ -23,25 +22,23 @@ use Rattle.gd_play.specs.Rules.{is_open_play, is_in_order, is_left, are_kept}
 abbrev pub own_stage : Setup → PlayRecord → StageOpen
 own_stage setup p = (stage setup p.game p.bet p.words (choices_of p)).phase
 
-pub record Facts (setup : Setup) (has_game : Game → Bool) (p : PlayRecord) (phase : StageOpen) : Type 0 where
-  pub game : has_game p.game ≡ true
+pub record Facts (setup : Setup) (p : PlayRecord) (phase : StageOpen) : Type 0 where
   pub bet : is_bet p.game p.bet ≡ true
   pub choices : are_choices setup p.game p.bet p.words (choices_of p) ≡ true
   pub win : p.win ≡ (stage setup p.game p.bet p.words (choices_of p)).win
   pub left : is_left setup p phase ≡ true
 
 -- the rules of the play that a machine holds
-pub held : (setup : Setup) (has_game : Game → Bool) (play : Option PlayRecord) (p : PlayRecord) (phase : StageOpen) → play ≡ Some p
-    → are_kept setup has_game play phase ≡ true → Facts setup has_game p phase
-held setup has_game play p phase is kept =
-    let own : is_in_order setup has_game p && is_left setup p phase ≡ true = sym (ap (λ (m : Option PlayRecord). are_kept setup has_game m phase) is) ∙ kept in
+pub held : (setup : Setup) (play : Option PlayRecord) (p : PlayRecord) (phase : StageOpen) → play ≡ Some p
+    → are_kept setup play phase ≡ true → Facts setup p phase
+held setup play p phase is kept =
+    let own : is_in_order setup p && is_left setup p phase ≡ true = sym (ap (λ (m : Option PlayRecord). are_kept setup m phase) is) ∙ kept in
     let choices = are_choices setup p.game p.bet p.words (choices_of p) in
     let win = p.win == (stage setup p.game p.bet p.words (choices_of p)).win in
-    let t = both (is_in_order setup has_game p) (is_left setup p phase) own in
-    let u = both (has_game p.game && is_bet p.game p.bet && choices) win t.0 in
-    let v = both (has_game p.game && is_bet p.game p.bet) choices u.0 in
-    let w = both (has_game p.game) (is_bet p.game p.bet) v.0 in
-    record { game = w.0; bet = w.1; choices = v.1; win = eqb-true p.win (stage setup p.game p.bet p.words (choices_of p)).win u.1; left = t.1 }
+    let t = both (is_in_order setup p) (is_left setup p phase) own in
+    let u = both (is_bet p.game p.bet && choices) win t.0 in
+    let v = both (is_bet p.game p.bet) choices u.0 in
+    record { bet = v.0; choices = v.1; win = eqb-true p.win (stage setup p.game p.bet p.words (choices_of p)).win u.1; left = t.1 }
 
 -- the machine's stage is that of the play's words and choices, as long as it isn't Ended
 pub stage_held : (setup : Setup) (p : PlayRecord) (phase : StageOpen) → is_left setup p phase ≡ true → is_stage phase StageOpen.Ended ≡ false
@@ -63,12 +60,12 @@ some_if true x y h = (refl, cc)
 some_if false x y h = absurd (cc h)
 
 -- the choices of a play with the choice that the machine's stage asks for
-pub choice_kept : (setup : Setup) (has_game : Game → Bool) (play : Option PlayRecord) (p : PlayRecord) (phase : StageOpen) (event : Event) (x : ℕ)
-    → play ≡ Some p → are_kept setup has_game play phase ≡ true → is_choosing event ≡ true
+pub choice_kept : (setup : Setup) (play : Option PlayRecord) (p : PlayRecord) (phase : StageOpen) (event : Event) (x : ℕ)
+    → play ≡ Some p → are_kept setup play phase ≡ true → is_choosing event ≡ true
     → Some x ≡ (if asks_for phase event then Some (choice_in event) else None)
     → are_choices setup p.game p.bet p.words (record { choice = Some x; turns = p.turns; colours = p.colours }) ≡ true
-choice_kept setup has_game play p phase event x is kept choosing answer =
-    let f = held setup has_game play p phase is kept in
+choice_kept setup play p phase event x is kept choosing answer =
+    let f = held setup play p phase is kept in
     let told = some_if (asks_for phase event) x (choice_in event) answer in
     let same = stage_held setup p phase f.left (still_going phase event choosing told.0) in
     let asks = ap (λ (s : StageOpen). asks_for s event) same ∙ told.0 in
@@ -80,10 +77,10 @@ pub record GambleFacts (setup : Setup) (p : PlayRecord) : Type 0 where
   pub choices : are_choices setup p.game p.bet p.words (choices_of p) ≡ true
   pub stage : own_stage setup p ≡ StageOpen.Gamble
 
-pub gamble_held : (setup : Setup) (has_game : Game → Bool) (play : Option PlayRecord) (p : PlayRecord) (phase : StageOpen) → play ≡ Some p
-    → phase ≡ StageOpen.Gamble → are_kept setup has_game play phase ≡ true → GambleFacts setup p
-gamble_held setup has_game play p phase is gamble kept =
-    let f = held setup has_game play p phase is kept in
+pub gamble_held : (setup : Setup) (play : Option PlayRecord) (p : PlayRecord) (phase : StageOpen) → play ≡ Some p
+    → phase ≡ StageOpen.Gamble → are_kept setup play phase ≡ true → GambleFacts setup p
+gamble_held setup play p phase is gamble kept =
+    let f = held setup play p phase is kept in
     let same = stage_held setup p phase f.left (ap (λ (s : StageOpen). is_stage s StageOpen.Ended) gamble) ∙ gamble in
     let could = both (is_choice setup p.game p.words p.choice && nat_lt p.colours (2 ^ p.turns)) (could_turn setup p.game p.bet p.words (choices_of p) p.turns) f.choices in
     record { turns = room_for_turn setup p.game p.bet p.words (choices_of p) could.1 same; choices = f.choices; stage = same }
@@ -106,10 +103,9 @@ record_bet : (p : PlayRecord) → is_play_record p ≡ true → is_bet p.game p.
 record_bet p rules = (all_told (record_rules p) rules).0
 
 -- the rules of an open play, taken apart
-pub kept_parts : (setup : Setup) (has_game : Game → Bool) (play : Option PlayRecord) → is_open_as (λ p. has_game p.game) play ≡ true
-    → is_open_as (is_open_play setup) play ≡ true → are_kept setup has_game play (open_stage_of setup play) ≡ true
-kept_parts setup has_game None games rules = refl
-kept_parts setup has_game (Some p) games rules =
+pub kept_parts : (setup : Setup) (play : Option PlayRecord) → is_open_as (is_open_play setup) play ≡ true → are_kept setup play (open_stage_of setup play) ≡ true
+kept_parts setup None rules = refl
+kept_parts setup (Some p) rules =
     let choices = are_choices setup p.game p.bet p.words (choices_of p) in
     let win = p.win == (stage setup p.game p.bet p.words (choices_of p)).win in
     let going = not (is_in setup p StageOpen.Ended) in
@@ -119,8 +115,8 @@ kept_parts setup has_game (Some p) games rules =
     let w = both ((p.wager == wager setup p.bet) && choices) win v.1 in
     let own = own_stage setup p in
     let bet = record_bet p v.0 in
-    both_hold (is_in_order setup has_game p) (is_left setup p own)
-    (both_hold (has_game p.game && is_bet p.game p.bet && choices) win
-    (both_hold (has_game p.game && is_bet p.game p.bet) choices (both_hold (has_game p.game) (is_bet p.game p.bet) games bet) (both (p.wager == wager setup p.bet) choices w.0).1)
+    both_hold (is_in_order setup p) (is_left setup p own)
+    (both_hold (is_bet p.game p.bet && choices) win
+    (both_hold (is_bet p.game p.bet) choices bet (both (p.wager == wager setup p.bet) choices w.0).1)
     w.1)
     (or_left (is_in setup p own) (is_stage own StageOpen.Ended && is_in setup p StageOpen.Gamble) (stage_itself own))

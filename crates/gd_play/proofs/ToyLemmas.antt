@@ -1,5 +1,5 @@
 -- Reels that show S alone: each play opens a pick, and no line pays.
-use Rattle.std.proofs.Common.{◌≡◌, ◌==◌, ◌&&◌, ◌+◌, ◌-◌, ◌*◌, ◌%◌, ◌<◌, ℕ, zero, suc, Bool, true, false, cond, nat_le, not, List, [], ◌∷◌, length, take, get_or, slice_index, max, Some, None, refl, sym, ap, ◌∙◌, arith, length-take, zero-mul}
+use Rattle.std.proofs.Common.{◌≡◌, ◌==◌, ◌&&◌, ◌+◌, ◌-◌, ◌*◌, ◌%◌, ◌<◌, ℕ, zero, suc, Bool, true, false, cond, nat_le, not, List, [], ◌∷◌, length, take, get_or, slice_index, max, Option, Some, None, refl, sym, ap, ◌∙◌, arith, length-take, zero-mul}
 use Rattle.std.specs.Prelude.{if◌then◌else◌, count_by}
 use Rattle.std.specs.List.{list_all}
 use Rattle.std.proofs.lemmas.Bool.{eqb-true}
@@ -13,12 +13,12 @@ use Rattle.gd_base.specs.declared.play.Stage.{Stage}
 use Rattle.gd_base.specs.declared.play.StageOpen.{StageOpen}
 use Rattle.gd_base.specs.declared.setup.Setup.{Setup}
 use Rattle.gd_base.specs.declared.tables.TheConstants.{LINES, SYMBOLS}
-use Rattle.gd_base.specs.Games.Chance.{row, stops, pick, pay_of_run, run_length, pays_on, greatest, letters_on, line_wins, window, prize}
+use Rattle.gd_base.specs.Games.Chance.{final_hand, hand_pay, rank, rank_place, row, stops, pick, pay_of_run, run_length, pays_on, greatest, letters_on, line_wins, window, prize}
 use Rattle.gd_base.specs.Histories.Credit.{wager}
 use Rattle.gd_base.specs.Histories.Rounds.{choices_of, no_choices}
 use Rattle.gd_base.specs.Judging.SoFar.{is_reels}
 use Rattle.gd_base.specs.Payloads.ViewRules.{is_in, is_play_record, is_played}
-use Rattle.gd_base.specs.Games.Stage.{base_win, gamble_stage, has_pick, lines_win, stage, stage_with, win_after, are_choices, is_stage}
+use Rattle.gd_base.specs.Games.Stage.{base_win, gamble_stage, has_pick, is_right, lines_win, stage, stage_with, win_after, are_choices, is_stage}
 use Rattle.gd_base.specs.Judging.Product.{both_hold}
 use Rattle.gd_play.specs.Rules.{is_open_play}
 
@@ -135,3 +135,22 @@ opens_at_pick setup p rules reels paid fresh no_win no_after shown =
     fresh_choices : (setup : Setup) (g : Game) (bet : ℕ) (words : List ℕ) → are_choices setup g bet words no_choices ≡ true
     fresh_choices setup Game.Reels bet words = refl
     fresh_choices setup Game.Poker bet words = refl
+
+-- ================ no hand pays
+
+no_win : (words : List ℕ) (colours turns : ℕ) → win_after words colours 0 turns ≡ 0
+no_win words colours zero = refl
+no_win words colours (suc turns) =
+    ap (λ (n : ℕ). if is_right words colours (suc turns) then 2 * n else 0) (no_win words colours turns) ∙ either (is_right words colours (suc turns)) 0
+
+-- so a play of poker ends with its hold
+pub stage_of_hand : (setup : Setup) (bet : ℕ) (words : List ℕ) (choices : Choices) (mask : ℕ) → choices.choice ≡ Some mask → is_none setup.poker_pays ≡ true
+    → stage setup Game.Poker bet words choices ≡ record { phase = StageOpen.Ended; win = 0 }
+stage_of_hand setup bet words choices mask is none =
+    let paid : hand_pay setup (rank (final_hand words mask)) * bet * setup.denom ≡ 0 =
+    ap (λ (pay : ℕ). pay * bet * setup.denom) (none_at setup.poker_pays (rank_place (rank (final_hand words mask))) none)
+    ∙ ap (λ (won : ℕ). won * setup.denom) (zero-mul bet) ∙ zero-mul setup.denom
+    in
+    ap (λ (choice : Option ℕ). stage_with setup Game.Poker words choices (base_win setup Game.Poker bet words choice)) is
+    ∙ ap (λ (won : ℕ). stage_with setup Game.Poker words choices (Some won)) paid
+    ∙ ap (gamble_stage setup choices.turns) (no_win words choices.colours choices.turns)

@@ -16,7 +16,7 @@ pub struct PlayMachine<P: Paytable> {
     table: P,
     play: Option<PlayRecord>,
     phase: StageOpen,
-    ghost kept: { IsTrue (are_kept (P.setup table) (P.has_game table) play phase) },
+    ghost kept: { IsTrue (are_kept (P.setup table) play phase) },
 }
 
 impl<P: Paytable> PlayMachine<P> {
@@ -31,7 +31,6 @@ impl<P: Paytable> PlayMachine<P> {
     /// A machine with this open play, or with none. The play keeps the rules of an open play in a payload, and its
     /// stage isn't Ended.
     pub fn from_parts(table: P, open_play: Option<PlayRecord>) -> Self
-        requires games { IsTrue (is_open_as (λ p. P.has_game table p.game) open_play) }
         requires rules { IsTrue (is_open_as (is_open_play (P.setup table)) open_play) }
         ensures table { play_machine_table result ≡ table }
         ensures play { play_machine_play result ≡ open_play }
@@ -48,7 +47,6 @@ impl<P: Paytable> PlayMachine<P> {
     /// Begins a play that has no choices yet. The answer is the stage that is open then.
     pub fn begin(&mut self, play: &PlayRecord) -> StageOpen
         requires none { play_machine_play self.old ≡ None }
-        requires game { IsTrue (P.has_game (play_machine_table self.old) play.now.game) }
         requires bet { IsTrue (is_bet play.now.game play.now.bet) }
         requires choices { choices_of play.now ≡ no_choices }
         requires win { play.now.win ≡ 0 }
@@ -160,7 +158,6 @@ impl<P: Paytable> PlayMachine<P> {
 
     /// Puts a play in place, with the win of its stage. The answer is that stage.
     fn go_on(&mut self, play: PlayRecord) -> StageOpen
-        requires game { IsTrue (P.has_game (play_machine_table self.old) play.game) }
         requires bet { IsTrue (is_bet play.game play.bet) }
         requires choices { IsTrue
             (are_choices (P.setup (play_machine_table self.old)) play.game play.bet play.words (choices_of play)) }
@@ -184,7 +181,6 @@ impl<P: Paytable> PlayMachine<P> {
 
 /// The stage that is open in a play, if there is one.
 fn open_phase<P: Paytable>(table: &P, play: &Option<PlayRecord>) -> StageOpen
-    requires games { IsTrue (is_open_as (λ p. P.has_game table.now p.game) play.now) }
     requires rules { IsTrue (is_open_as (is_open_play (P.setup table.now)) play.now) }
     ensures { result ≡ open_stage_of (P.setup table.now) play.now }
 {

@@ -6,7 +6,7 @@ mod books;
 mod calls;
 mod checking;
 mod counting;
-mod gambling;
+mod games;
 mod judging;
 mod open_play;
 mod payload_reading;
@@ -15,7 +15,6 @@ mod play_lines;
 #[cfg(test)]
 mod play_tests;
 mod recording;
-mod reels_table;
 mod settling;
 mod showing;
 #[cfg(test)]
@@ -26,7 +25,7 @@ ghost use Rattle.gd_play.specs.PlayMachine.{play_machine_stage, play_machine_pla
 ghost use Rattle.gd_top.specs.FirstCore.Books.{AreFit};
 
 use self::books::Books;
-use self::reels_table::ReelsTable;
+use self::games::Games;
 use gd_base::Setup;
 use gd_play::PlayMachine;
 
@@ -35,6 +34,6 @@ use gd_play::PlayMachine;
 pub(crate) struct FirstCore {
     pub(crate) setup: Setup,
     pub(crate) books: Books,
-    pub(crate) plays: PlayMachine<ReelsTable>,
+    pub(crate) plays: PlayMachine<Games>,
     ghost fit: { AreFit setup books (play_machine_table plays) (play_machine_play plays) (play_machine_stage plays) },
 }

@@ -1,7 +1,6 @@
 //! The whole program: a script is carried out on a memory, and its report written.
 #![tactic(auto)]
 
-mod built_in;
 mod command;
 mod ended;
 mod first_core;

@@ -8,7 +8,6 @@ ghost use Rattle.gd_base.specs.Outside.Causes.{Rose};
 ghost use Rattle.gd_base.specs.Setups.BuiltIn.{built_in_setup};
 ghost use Rattle.gd_top.specs.Claims.Trial.{is_trial, no_memory_text, outer, usage_text, CabinetDone, EndsAsTold, GivesLast, HasCauses, IsBuilt, IsUnopened, WroteBroken, WroteFrontOf, WroteReport, WroteToFault};
 
-use crate::built_in::built_in;
 use crate::command::trial::run_trial;
 use crate::ended::{Ended, Falls};
 use crate::first_core::FirstCore;
@@ -16,6 +15,7 @@ use crate::status::Status;
 use gd_base::{Draws, Sink, Source};
 use gd_cabinet::Parts;
 use gd_disk::{DISK_LEN, Disk, LabDisk};
+use gd_games::built_in;
 use gd_store::Room;
 use std::alloc::Global;
 

@@ -1,15 +1,16 @@
-//! A small paytable: reels that show S alone. So each play opens a pick, and no line pays.
+//! A small paytable: reels that show S alone, so each play opens a pick and no line pays, and poker without pays.
 
-ghost use Rattle.std.specs.Prelude.{◌≡◌, ◌≤◌, ◌==◌, ◌*◌, IsTrue, length};
+ghost use Rattle.std.specs.Prelude.{◌≡◌, ◌≤◌, ◌==◌, ◌*◌, ℕ, List, IsTrue, length};
 ghost use Rattle.std.specs.List.{list_all};
 ghost use Rattle.gd_base.specs.Games.Chance.{is_red as is_red_of, prize as prize_of};
-ghost use Rattle.gd_base.specs.Judging.SoFar.{is_reels};
-ghost use Rattle.gd_base.specs.Games.Stage.{gamble_card, gamble_stage as gamble_stage_of, is_right as is_right_of, win_after as win_after_of};
+ghost use Rattle.gd_base.specs.declared.game.Game.{Game as GameData};
+ghost use Rattle.gd_base.specs.declared.play.Choices.{Choices as ChoicesData};
+ghost use Rattle.gd_base.specs.Games.Stage.{are_choices, gamble_card, gamble_stage as gamble_stage_of, is_bet, is_right as is_right_of, stage as stage_of, win_after as win_after_of};
 
 use crate::paytable::Paytable;
 use gd_base::{Block, Choices, Game, Setup, Stage, StageOpen, pick};
 
-/// The reels of a setup whose strips have no letter but S, and whose lines pay nothing.
+/// The games of a setup whose strips have no letter but S, and whose lines and hands pay nothing.
 #[derive(Drop)]
 pub(crate) struct Toy {
     setup: Setup,
@@ -17,6 +18,7 @@ pub(crate) struct Toy {
     ghost lengths: { IsTrue (list_all (λ strip. length strip == 32) setup.strips) },
     ghost scatters: { IsTrue (list_all (list_all (λ letter. letter == 83)) setup.strips) },
     ghost no_pays: { IsTrue (list_all (list_all (λ pay. pay == 0)) setup.reel_pays) },
+    ghost no_hands: { IsTrue (list_all (λ pay. pay == 0) setup.poker_pays) },
 }
 
 impl Toy {
@@ -50,20 +52,48 @@ impl Toy {
 impl Paytable for Toy {
     ghost setup = { λ t. t.setup };
 
-    ghost has_game = { λ t game. is_reels game };
-
-    fn stage(&self, _game: Game, bet: u8, words: &Block, choices: &Choices) -> Stage {
-        match choices.choice {
-            None => Stage {
-                phase: StageOpen::Pick,
-                win: 0,
-            },
-            Some(door) => {
-                let base = won(&self.setup, bet, words, door);
-                let win = win_after(words, choices.colours, base, choices.turns);
-                gamble_stage(&self.setup, choices.turns, win)
-            }
+    fn stage(&self, game: Game, bet: u8, words: &Block, choices: &Choices) -> Stage {
+        match game {
+            Game::Reels => reels_stage(self, bet, words, choices),
+            Game::Poker => poker_stage(self, choices.choice),
         }
+    }
+}
+
+/// The stage of a play of the reels.
+fn reels_stage(toy: &Toy, bet: u8, words: &Block, choices: &Choices) -> Stage
+    requires bet { IsTrue (is_bet GameData.Reels bet) }
+    requires choices { IsTrue (are_choices toy.now.setup GameData.Reels bet words.now choices.now) }
+    ensures { result ≡ stage_of toy.now.setup GameData.Reels bet words.now choices.now }
+{
+    match choices.choice {
+        None => Stage {
+            phase: StageOpen::Pick,
+            win: 0,
+        },
+        Some(door) => {
+            let base = won(&toy.setup, bet, words, door);
+            let win = win_after(words, choices.colours, base, choices.turns);
+            gamble_stage(&toy.setup, choices.turns, win)
+        }
+    }
+}
+
+/// The stage of a play of poker, in which no hand pays.
+fn poker_stage(toy: &Toy, choice: Option<u8>) -> Stage
+    ensures { (bet : ℕ) (words : List ℕ) (choices : ChoicesData) → choices.choice ≡ choice
+        → result ≡ stage_of toy.now.setup GameData.Poker bet words choices }
+{
+    let _toy = toy;
+    match choice {
+        None => Stage {
+            phase: StageOpen::Hold,
+            win: 0,
+        },
+        Some(_) => Stage {
+            phase: StageOpen::Ended,
+            win: 0,
+        },
     }
 }
 

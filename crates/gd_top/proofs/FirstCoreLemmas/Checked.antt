@@ -1,5 +1,5 @@
 -- What is tested of books and of an open play is that their view keeps the rules.
-use Rattle.std.proofs.Common.{◌≡◌, ◌∙◌, ap, sym, refl, ℕ, suc, ◌<◌, ◌^◌, ◌==◌, nat_le, nat_lt, Bool, true, false, ◌&&◌, arith, get_or, List, [], ◌∷◌, take, drop, length, Option, Some, None, IfSome, IsTrue, map, sum, not, is_some}
+use Rattle.std.proofs.Common.{◌≡◌, ◌∙◌, ap, sym, refl, ℕ, suc, ◌<◌, ◌^◌, ◌==◌, nat_le, nat_lt, Bool, true, false, ◌&&◌, arith, get_or, List, [], ◌∷◌, take, drop, length, Option, Some, None, IfSome, IsTrue, map, sum, not, is_some, if◌then◌else◌}
 use Rattle.std.specs.List.{list_all}
 use Rattle.std.proofs.lemmas.Bool.Decides.{nat_tests}
 use Rattle.gd_base.specs.declared.game.Game.{Game}
@@ -7,17 +7,16 @@ use Rattle.gd_base.specs.declared.payout.Handpay.{Handpay}
 use Rattle.gd_base.specs.declared.play.PlayRecord.{PlayRecord}
 use Rattle.gd_base.specs.declared.play.StageOpen.{StageOpen}
 use Rattle.gd_base.specs.declared.setup.Setup.{Setup}
-use Rattle.gd_base.specs.Histories.Credit.{wager}
-use Rattle.gd_base.specs.Histories.Rounds.{choices_of}
 use Rattle.gd_base.specs.Judging.SoFar.{keeps_rules_so_far, is_reels, is_plain}
 use Rattle.gd_base.specs.Payloads.ViewRules.{is_placed, view_rules, setup_rules, record_rules, is_possible, is_possible_under, is_play_record, is_open_record, is_played, is_in, is_choice_value, is_flagged_last, is_balanced, is_some_handpay, not_both, is_open_as}
-use Rattle.gd_base.specs.Games.Stage.{is_choice, are_choices}
+use Rattle.gd_base.specs.Games.Stage.{is_stage}
 use Rattle.gd_base.specs.Judging.Product.{both_hold}
+use Rattle.gd_games.specs.Plays.{phase_if_played, play_stage}
 use Rattle.gd_base.specs.Histories.View.{View}
-use Rattle.gd_base.proofs.BoolTests.{all_hold, all_told, both, is_below, is_equal, is_so, is_within}
+use Rattle.gd_base.proofs.BoolTests.{all_hold, all_told, both, is_below, is_equal, is_within}
 use Rattle.gd_top.specs.declared.first_core.books.Books.{Books}
 use Rattle.gd_top.specs.FirstCore.Books.{view_of}
-use Rattle.gd_top.specs.FirstCore.Checks.{are_counts, is_plain_record, is_staged, is_going_on, is_open_at, is_in_order, is_one_of}
+use Rattle.gd_top.specs.FirstCore.Checks.{are_counts, is_plain_record, is_going_on, is_open_at, is_in_order, is_one_of}
 
 -- ================ sums and widths
 
@@ -46,35 +45,20 @@ pub is_reels_game : (g : Game) → is_reels g ≡ true → g ≡ Game.Reels
 is_reels_game Game.Reels h = refl
 is_reels_game Game.Poker h = absurd (cc h)
 
--- a plain play has no turn of gamble, and its choice is all that its stages are to allow
-choices_at : (setup : Setup) (g : Game) (bet : ℕ) (words : List ℕ) (choice : Option ℕ) (turns colours : ℕ) → g ≡ Game.Reels → turns ≡ 0 → colours ≡ 0
-    → is_choice setup Game.Reels words choice ≡ true
-    → are_choices setup g bet words (record { choice = choice; turns = turns; colours = colours }) ≡ true
-choices_at setup g bet words choice turns colours is_it none no_colour may =
-    (λ j. are_choices setup (is_it j) bet words (record { choice = choice; turns = none j; colours = no_colour j }))
-    ∙ ap (λ (x : Bool). x && true && true) may
+going_if : (b : Bool) (shown at : StageOpen) → Some at ≡ (if b then Some shown else None) → not (is_stage at StageOpen.Ended) ≡ b && not (is_stage shown StageOpen.Ended)
+going_if true shown at told = ap (λ (s : StageOpen). not (is_stage s StageOpen.Ended)) (cc told)
+going_if false shown at told = absurd (cc told)
 
-none_coloured : (colours turns : ℕ) → turns ≡ 0 → nat_lt colours (2 ^ turns) ≡ true → colours ≡ 0
-none_coloured colours turns none h =
-    let one : nat_lt colours 1 ≡ true = ap (λ (n : ℕ). nat_lt colours (2 ^ n)) (sym none) ∙ h in
-    grind (arith, nat_tests, one)
+not_if : (b : Bool) (shown : StageOpen) → None ≡ (if b then Some shown else None) → false ≡ b && not (is_stage shown StageOpen.Ended)
+not_if true shown told = absurd (cc told)
+not_if false shown told = refl
 
-pub plain_choices : (setup : Setup) (p : PlayRecord) → is_plain_record p ≡ true → is_choice setup Game.Reels p.words p.choice ≡ true
-    → are_choices setup p.game p.bet p.words (choices_of p) ≡ true
-plain_choices setup p plain may =
-    let t = both (is_plain p) (is_play_record p) plain in
-    let u = both (is_reels p.game) (p.turns == 0) t.0 in
-    let r = all_told (record_rules p) t.1 in
-    let none = is_so p.turns 0 u.1 in
-    choices_at setup p.game p.bet p.words p.choice p.turns p.colours (is_reels_game p.game u.0) none (none_coloured p.colours p.turns none r.1.1.1.0) may
+-- what `played` tells of a play
+pub going_is : (setup : Setup) (p : PlayRecord) (at : StageOpen) → Some at ≡ phase_if_played setup p → not (is_stage at StageOpen.Ended) ≡ is_going_on setup p
+going_is setup p at told = going_if (is_played setup p) (play_stage setup p).phase at told
 
-three_more : (a c w n : Bool) → a ≡ true → c ≡ true → (w && n) ≡ (a && c && w && n)
-three_more a c w n p q = λ j. sym p j && sym q j && w && n
-
-pub going_is : (setup : Setup) (p : PlayRecord) → is_plain_record p ≡ true → is_choice setup Game.Reels p.words p.choice ≡ true → p.wager ≡ wager setup p.bet
-    → is_staged setup p ≡ is_going_on setup p
-going_is setup p plain may pays =
-    three_more (p.wager == wager setup p.bet) (are_choices setup p.game p.bet p.words (choices_of p)) _ _ (is_equal p.wager (wager setup p.bet) pays) (plain_choices setup p plain may)
+pub not_going : (setup : Setup) (p : PlayRecord) → None ≡ phase_if_played setup p → false ≡ is_going_on setup p
+not_going setup p told = not_if (is_played setup p) (play_stage setup p).phase told
 
 -- ================ the whole
 

@@ -3,7 +3,7 @@ use Rattle.std.proofs.Common.{◌≡◌, ℕ, subst, refl, ◌==◌, ◌&&◌, n
 use Rattle.gd_base.specs.declared.play.PlayRecord.{PlayRecord}
 use Rattle.gd_base.specs.declared.play.StageOpen.{StageOpen}
 use Rattle.gd_base.specs.declared.setup.Setup.{Setup}
-use Rattle.gd_base.specs.Judging.SoFar.{is_reels, keeps_rules_so_far}
+use Rattle.gd_base.specs.Judging.SoFar.{keeps_rules_so_far}
 use Rattle.gd_base.specs.Payloads.ViewRules.{is_open_as, is_play_record, is_played, is_in}
 use Rattle.gd_base.proofs.BoolTests.{both}
 use Rattle.gd_base.proofs.SoFarLemmas.Rules.{IsKeptPlay, counted}
@@ -11,10 +11,6 @@ use Rattle.gd_play.specs.Rules.{is_open_play}
 use Rattle.gd_top.specs.declared.first_core.books.Books.{Books}
 use Rattle.gd_top.specs.FirstCore.Books.{view_of}
 use Rattle.gd_base.specs.Judging.Product.{both_hold}
-
-games : (setup : Setup) (count : ℕ) (play : Option PlayRecord) → IsKeptPlay setup count play → is_open_as (λ p. is_reels p.game) play ≡ true
-games setup count None k = refl
-games setup count (Some p) k = (both (is_reels p.game) (p.turns == 0) k.plain).0
 
 rules : (setup : Setup) (count : ℕ) (play : Option PlayRecord) → IsKeptPlay setup count play → is_open_as (is_open_play setup) play ≡ true
 rules setup count None k = refl
@@ -31,9 +27,6 @@ kept : (setup : Setup) (result : Option (Books × Option PlayRecord)) (read : Bo
 kept setup result read is whole =
     let now : keeps_rules_so_far setup (view_of read.0 read.1) ≡ true = subst (Whole setup) is whole in
     (counted setup read.0.count read.0.balance read.0.totals read.1 read.0.handpay read.0.kept now).open_play
-
-pub loaded_games : (setup : Setup) (result : Option (Books × Option PlayRecord)) (read : Books × Option PlayRecord) → result ≡ Some read → Whole setup result → is_open_as (λ p. is_reels p.game) read.1 ≡ true
-loaded_games setup result read is whole = games setup read.0.count read.1 (kept setup result read is whole)
 
 pub loaded_rules : (setup : Setup) (result : Option (Books × Option PlayRecord)) (read : Books × Option PlayRecord) → result ≡ Some read → Whole setup result → is_open_as (is_open_play setup) read.1 ≡ true
 loaded_rules setup result read is whole = rules setup read.0.count read.1 (kept setup result read is whole)

@@ -20,9 +20,9 @@ use Rattle.gd_top.proofs.FirstCoreLemmas.Checked.{is_reels_game}
 pub record InOrder (setup : Setup) (p : PlayRecord) : Type 0 where
   pub game : p.game ≡ Game.Reels
   pub turns : p.turns ≡ 0
-  pub bet : is_bet Game.Reels p.bet ≡ true
+  pub bet : is_bet p.game p.bet ≡ true
   pub choice : is_choice_value Game.Reels p.choice ≡ true
-  pub choices : are_choices setup Game.Reels p.bet p.words (choices_of p) ≡ true
+  pub choices : are_choices setup p.game p.bet p.words (choices_of p) ≡ true
 
 pub in_order : (setup : Setup) (p : PlayRecord) → is_in_order setup p ≡ true → InOrder setup p
 in_order setup p h =
@@ -37,9 +37,9 @@ in_order setup p h =
     record {
       game = game;
       turns = is_so p.turns 0 reels.1;
-      bet = ap (λ (g : Game). is_bet g p.bet) (sym game) ∙ r.0;
+      bet = r.0;
       choice = ap (λ (g : Game). is_choice_value g p.choice) (sym game) ∙ r.1.0;
-      choices = ap (λ (g : Game). are_choices setup g p.bet p.words (choices_of p)) (sym game) ∙ pays.1;
+      choices = pays.1;
     }
 
 regroup : (a b c d e f : List ℕ) → a ++ (b ++ c ++ d) ++ e ++ f ≡ a ++ (b ++ c ++ d ++ e) ++ [] ++ f

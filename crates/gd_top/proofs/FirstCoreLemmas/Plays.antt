@@ -27,10 +27,10 @@ use Rattle.gd_base.proofs.BoolTests.{both, all_told, at_most, is_so}
 use Rattle.gd_base.proofs.SoFarLemmas.Rules.{IsCounted, IsKeptPlay, counted, counts_at, reels_only}
 use Rattle.gd_base.proofs.SoFarLemmas.Steps.{IsOfRound, effect_refused, effect_bill, effect_start, effect_play, effect_pick, effect_take, view_moved, still_open}
 use Rattle.gd_base.proofs.HistoryLemmas.Wins.{most_win}
-use Rattle.gd_play.specs.Judging.{refusal, judgement}
+use Rattle.gd_play.specs.Judging.{asks_for, refusal, judgement}
 use Rattle.gd_play.specs.Moving.{open_stage_of, play_with_round, play_after, stage_after}
 use Rattle.gd_top.specs.declared.first_core.books.Books.{Books}
-use Rattle.gd_top.specs.declared.first_core.reels_table.ReelsTable.{ReelsTable}
+use Rattle.gd_top.specs.declared.first_core.games.Games.{Games}
 use Rattle.gd_top.specs.FirstCore.Books.{AreFit, HasRoom, acted, begun, is_fresh, left_at, replied, settled, view_of, with_bill, with_wager}
 
 -- ================ what fits
@@ -38,7 +38,7 @@ use Rattle.gd_top.specs.FirstCore.Books.{AreFit, HasRoom, acted, begun, is_fresh
 abbrev pub IsKept : Setup → Books → Option PlayRecord → Type 0
 IsKept setup b play = IsCounted setup b.count b.balance b.totals play b.handpay b.kept
 
-pub kept_by_fit : (setup : Setup) (b : Books) (t : ReelsTable) (play : Option PlayRecord) (at : StageOpen) → AreFit setup b t play at → IsKept setup b play
+pub kept_by_fit : (setup : Setup) (b : Books) (t : Games) (play : Option PlayRecord) (at : StageOpen) → AreFit setup b t play at → IsKept setup b play
 kept_by_fit setup b t play at fit = counted setup b.count b.balance b.totals play b.handpay b.kept fit.whole
 
 pub room_by : (setup : Setup) (b : Books) (play : Option PlayRecord) → IsKept setup b play → HasRoom b
@@ -331,3 +331,23 @@ begun_views setup b after before left bet d draw p reply k taken some is replied
     let whole : PlayRecord → View = λ q. let s = open_stage_of setup (Some q) in let play = Some (play_with_round setup q (round_of q)) in view_of (settled setup s play (with_wager q.wager b)) (left_at s play) in
     (λ x. view_of (books x) (moved x)) ∙ ap whole is ∙ begun_view setup b bet d.0 d.1 now t.1
     ∙ (λ x. acted setup (view_of b (sym t.0 x)) (Event.Play Game.Reels bet) (sym some x) (sym replied_so x))
+
+-- ================ the stage after a take
+
+judged_at : (b : Bool) (phase at : StageOpen) → Ok phase ≡ judgement (unless b Refusal.BadChoice) at → phase ≡ at
+judged_at true phase at h = cc h
+judged_at false phase at h = absurd (cc h)
+
+taken_at : (own : Setup) (play : Option PlayRecord) (at phase : StageOpen) → Ok phase ≡ judgement (refusal play at Event.Take) (stage_after own Event.Take play) → phase ≡ StageOpen.Ended
+taken_at own None at phase h = absurd (cc h)
+taken_at own (Some p) at phase h = judged_at (asks_for at Event.Take) phase StageOpen.Ended h
+
+-- no play is open and its stage is Ended, or all is as it was
+pub take_phase : (setup own : Setup) (play : Option PlayRecord) (at now new : StageOpen) (r : Result StageOpen Refusal) (mid left : Option PlayRecord)
+    → r ≡ judgement (refusal play at Event.Take) (stage_after own Event.Take play) → at ≡ open_stage_of setup play → new ≡ now
+    → IfOk r (λ phase. now ≡ phase) → IfOk r (λ phase. left ≡ left_at phase mid) → OnErr r (now ≡ at) → OnErr r (left ≡ play) → new ≡ open_stage_of setup left
+take_phase setup own play at now new (Ok phase) mid left answer kept same moved gone stays still =
+    let ended = taken_at own play at phase answer in
+    same ∙ moved ∙ ended ∙ sym (ap (open_stage_of setup) (gone ∙ ap (λ (p : StageOpen). left_at p mid) ended))
+take_phase setup own play at now new (Err why) mid left answer kept same moved gone stays still =
+    same ∙ stays ∙ kept ∙ ap (open_stage_of setup) (sym still)

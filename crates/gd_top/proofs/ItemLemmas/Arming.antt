@@ -14,7 +14,7 @@ use Rattle.gd_store.specs.Copy.{AreBad}
 use Rattle.gd_store.specs.Masks.{Mask}
 use Rattle.gd_store.specs.declared.copy.layout.TheConstants.{LAYOUT}
 use Rattle.gd_top.specs.Claims.MemoryLeft.{IsLeftIn, IsMasked}
-use Rattle.gd_top.specs.Code.Falls.{AreCalls, AreWaiting, IsWaiting, counts_calls}
+use Rattle.gd_top.specs.Code.Falls.{AreWaiting, IsWaiting, counts_calls}
 use Rattle.gd_top.specs.Code.Memory.{Moment, Does, Fits, IsKnownIn, Sits, TellsApart, begun, outside}
 use Rattle.gd_top.specs.Code.Parts.{GivesText}
 use Rattle.gd_top.specs.Code.Standing.{Standing}
@@ -23,6 +23,7 @@ use Rattle.gd_top.specs.Run.Offers.{AreArmed}
 use Rattle.gd_top.specs.Run.State.{Phase, On, Off, Locked, is_powered}
 use Rattle.gd_top.specs.declared.halt.Halt.{Halt}
 use Rattle.gd_top.specs.declared.memory.TheConstants.{MOST_POWER_ONS}
+use Rattle.gd_top.proofs.ItemLemmas.Lines.{limit_is}
 use Rattle.gd_top.proofs.ItemLemmas.PowerLines.{armed_after, cut_stops, cut_tells}
 use Rattle.gd_top.proofs.RunLemmas.Cuts.{armed_itself, armed_length, calls_many}
 use Rattle.gd_top.proofs.RunLemmas.Said.{said, stops_here, moves_on, gives_no_disk_fault, gives_no_read_fault, on_err_at}
@@ -90,10 +91,6 @@ pub record ArmsOne {V : Type 0} (cut : ArmedCut) (was now : Moment V) : Type 0 w
   pub calls : now.counts.calls.items ≡ was.counts.calls.items ++ counts_calls cut.unit ∷ []
 
 module _ {V : Type 0} (cut : ArmedCut) (was : Moment V) where
-  -- the limit is told as it is kept
-  limit_is : (s : Standing V) → AreCalls was.counts.calls.items was.disk.armed → Fits s was → s.power_ons + length s.armed ≡ was.counts.power_ons + length was.counts.calls.items
-  limit_is s calls fits = omega (arith, fits.power_ons, armed_length s.armed was.disk.armed fits.armed, calls_many was.counts.calls.items was.disk.armed calls)
-
   -- at the limit
   pub arm_stops : nat_le MOST_POWER_ONS (was.counts.power_ons + length was.counts.calls.items) ≡ true → Sits was
       → Does (λ M B. item_meaning M B (Item.Cut cut.unit cut.count cut.torn)) (Err Halt.ScriptFault) was was
@@ -105,7 +102,7 @@ module _ {V : Type 0} (cut : ArmedCut) (was : Moment V) where
           s,
           (λ serves. fits),
           stops_here M (item_meaning M B (Item.Cut cut.unit cut.count cut.torn)) s (outside was)
-              (λ x. cut_stops M B was.lap cut s x (ap (nat_le MOST_POWER_ONS) (limit_is s sits.counted.calls fits) ∙ limit)),
+              (λ x. cut_stops M B was.lap cut s x (ap (nat_le MOST_POWER_ONS) (limit_is was s sits fits) ∙ limit)),
         );
         leaves = record {
           sits = λ serves. sits;
@@ -178,7 +175,7 @@ module _ {V : Type 0} (cut : ArmedCut) (was : Moment V) where
                 (λ serves. arm_fits s fits),
                 said M r (item_meaning M B (Item.Cut cut.unit cut.count cut.torn)) s t (outside was) (outside now) now.disk (codes "armed\n") arms.found arms.falls
                     (moves_on s t (outside was) (outside now) (omega arith) (omega arith) (ap (λ (n : ℕ). n + s.syncs) arms.kept.syncs))
-                    (λ x whole. cut_tells M B was.lap cut s x (ap (nat_le MOST_POWER_ONS) (limit_is s sits.counted.calls fits) ∙ test)) fits.explained
+                    (λ x whole. cut_tells M B was.lap cut s x (ap (nat_le MOST_POWER_ONS) (limit_is was s sits fits) ∙ test)) fits.explained
                     (armed_length t.armed now.disk.armed (arm_fits s fits).armed)
                     (subst (λ (p : Phase). IsLeftIn M p s.view s.masks now.disk) (sym fits.phase) (left_as M s.view s.masks was.disk now.disk arms.loss arms.found was.phase fits.holds))
                     given,

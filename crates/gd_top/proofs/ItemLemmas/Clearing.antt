@@ -35,9 +35,10 @@ use Rattle.gd_top.proofs.LineLemmas.Alike.{alike_by}
 use Rattle.gd_top.proofs.RunLemmas.Equations.{clear_is, no_start}
 use Rattle.gd_top.proofs.RunLemmas.Parts.{broken_then, pending_then, then_by, unwritten_then}
 use Rattle.gd_top.proofs.RunLemmas.Said.{ends_nowhere, found_none, err_is, moves_not, moves_on, stops_here}
-use Rattle.gd_top.proofs.RunLemmas.Cuts.{armed_faulted, armed_length, armed_used, armed_whole, calls_many, falls_are}
+use Rattle.gd_top.proofs.RunLemmas.Cuts.{armed_faulted, armed_used, armed_whole, falls_are}
 use Rattle.gd_top.proofs.RunLemmas.OffersAt.{after_fall, after_offer, fall_moves}
 use Rattle.gd_top.proofs.ItemLemmas.Images.{both_alike, unmasked}
+use Rattle.gd_top.proofs.ItemLemmas.Lines.{limit_is}
 use Rattle.gd_top.proofs.ItemLemmas.MakingOffers.{making_broke, making_cleared, making_fell, making_whole}
 
 module _ {V : Type 0} (M : Machine V) (B : Blocks) (s : Standing V) where
@@ -261,9 +262,6 @@ module _ {V : Type 0} where
 
   -- ================ at its beginning
 
-  pub limit_is : (s : Standing V) (was : Moment V) → Sits was → Fits s was → s.power_ons + length s.armed ≡ was.counts.power_ons + length was.counts.calls.items
-  limit_is s was sits fits = omega (arith, fits.power_ons, armed_length s.armed was.disk.armed fits.armed, calls_many was.counts.calls.items was.disk.armed sits.counted.calls)
-
   clear_by : (M : Machine V) (B : Blocks) (s : Standing V) (x : Later V) (b : Bool) → s.phase ≡ Locked → nat_le MOST_POWER_ONS (s.power_ons + length s.armed) ≡ b
       → (let u = at s x in item_meaning M B Item.Clear u ≡ (if b then ends Stops [] u else make M (power_on M B) u))
   clear_by M B s x b is test =
@@ -276,7 +274,7 @@ module _ {V : Type 0} where
       s,
       (λ serves. fits),
       stops_here was.machine (item_meaning was.machine was.blocks Item.Clear) s (outside was)
-          (λ x. clear_by was.machine was.blocks s x true (fits.phase ∙ is) (ap (nat_le MOST_POWER_ONS) (limit_is s was sits fits) ∙ limit)),
+          (λ x. clear_by was.machine was.blocks s x true (fits.phase ∙ is) (ap (nat_le MOST_POWER_ONS) (limit_is was s sits fits) ∙ limit)),
     );
     leaves = record {
       sits = λ serves. sits;
@@ -303,7 +301,7 @@ module _ {V : Type 0} where
         report = [];
         printed = Appends-nil was.taken;
         moves = moves_not s (outside was);
-        tells = λ x whole rise. clear_by was.machine was.blocks s x false (fits.phase ∙ is) (ap (nat_le MOST_POWER_ONS) (limit_is s was sits fits) ∙ test);
+        tells = λ x whole rise. clear_by was.machine was.blocks s x false (fits.phase ∙ is) (ap (nat_le MOST_POWER_ONS) (limit_is was s sits fits) ∙ test);
       },
     );
     machine = refl;

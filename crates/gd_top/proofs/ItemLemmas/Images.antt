@@ -1,5 +1,5 @@
 -- What an image shows: one that has a view in both copies, one that was altered since, and one that nothing was written to.
-use Rattle.std.proofs.Common.{◌≡◌, ◌∙◌, ap, sym, subst, refl, ◌⊎◌, inl, inr, ⊎_elim, ℕ, ◌+◌, ◌==◌, nat_le, nat_lt, Bool, true, false, ◌&&◌, ◌||◌, if◌then◌else◌, List, length, arith, Option, None, Some, IfSome, [], ◌∷◌, ◌++◌}
+use Rattle.std.proofs.Common.{◌≡◌, ◌∙◌, ap, sym, subst, refl, ◌⊎◌, inl, inr, ⊎_elim, ℕ, ◌+◌, ◌==◌, nat_le, nat_lt, Bool, true, false, ◌&&◌, ◌||◌, if◌then◌else◌, List, length, arith, Option, None, Some, IfSome, [], ◌∷◌}
 use Rattle.std.proofs.lemmas.Bool.Decides.{nat_tests}
 use Rattle.gd_base.specs.declared.limits.TheConstants.{MOST_ENTRIES}
 use Rattle.gd_base.specs.Judging.Answer.{is_full}
@@ -7,7 +7,7 @@ use Rattle.gd_base.specs.Judging.Machine.{Machine, Blocks}
 use Rattle.gd_base.specs.Payloads.LoadedView.{at_sequence, opens}
 use Rattle.gd_base.specs.Payloads.Spelled.{Spelled, Shows, Foreign, Unreadable}
 use Rattle.gd_cabinet.specs.CoreLeft.{LeavesCore}
-use Rattle.gd_cabinet.specs.OpenAnswer.{IsLocked, OnUnread}
+use Rattle.gd_cabinet.specs.OpenAnswer.{IsLocked}
 use Rattle.gd_cabinet.specs.OpenMoments.{IsOpening, view_started}
 use Rattle.gd_cabinet.specs.Shown.{shows, spelled_boot, IsInBoth, ShowsEither}
 use Rattle.gd_cabinet.specs.declared.cabinet.Parts.{Parts}
@@ -28,7 +28,7 @@ use Rattle.gd_store.specs.declared.copy.states.Found.{Found}
 use Rattle.gd_store.specs.declared.copy.layout.TheConstants.{LAYOUT}
 use Rattle.gd_store.proofs.MaskedBoots.{bad_boots, latest_is, length_masked, masked_boots}
 use Rattle.gd_store.proofs.Sealed.{same_bytes}
-use Rattle.gd_top.specs.Claims.MemoryLeft.{IsMasked, IsSettled, IsShut}
+use Rattle.gd_top.specs.Claims.MemoryLeft.{IsMasked, IsSettled}
 use Rattle.gd_top.specs.Code.Memory.{TellsApart}
 use Rattle.gd_top.specs.Report.Lines.{is_copy_full, is_found_full}
 use Rattle.gd_top.specs.Run.Openings.{may_lock}
@@ -235,12 +235,6 @@ module _ {V : Type 0} (M : Machine V) where
   pub bad_shows : (image : List ℕ) → AreBad LAYOUT image → shows M image ≡ Unreadable
   bad_shows image bad = ap (λ (b : Option (ℕ × List ℕ)). opens M (spelled_boot M b)) (bad_boots LAYOUT image bad)
 
-  -- the test on two views tells the found one from the one of the history
-  pub found_same : TellsApart M → (v w : V) (masks : List Mask) (image : List ℕ) → IsMasked M v masks image → shows M image ≡ Shows w → M.same w v ≡ true → v ≡ w
-  found_same tells v w masks image h shown same =
-      let b = shown_boots w image shown in
-      sym (tells.views.same_is w v (b.payload, b.spelled) (h.both.payload, h.both.spelled) same)
-
   -- ================ what was not written
 
   -- nothing was written
@@ -249,33 +243,10 @@ module _ {V : Type 0} (M : Machine V) where
       let was = loss.now image may in
       subst P (sym was.2) (each was.0 was.1)
 
-  unread_at : {C D W : Type 0} (g h i : _) (found : Option Found) (parts : Parts C D W) (P : Type 0) → OnUnread {C = C} {D = D} {W = W} {g = g} {h = h} {i = i} (CabinetOpened.Off found parts) P → found ≡ None → P
-  unread_at g h i found parts P p is = subst (λ (f : Option Found). OnUnread {g = g} {h = h} {i = i} (CabinetOpened.Off f parts) P) is p
-
-  -- the copies could not be read: nothing was written
-  pub unread_still : {C D W : Type 0} (g h i : _) (P : List ℕ → Type 0) (on off : DiskState) (found : Option Found) (parts : Parts C D W)
-      → OnUnread {C = C} {D = D} {W = W} {g = g} {h = h} {i = i} (CabinetOpened.Off found parts) (LeavesOnly on off (From on Unchanged))
-      → ((image : List ℕ) → on.may_find image → P image) → found ≡ None → (image : List ℕ) → off.may_find image → P image
-  unread_still g h i P on off found parts unread each is image may =
-      let was = at_end on off (From on Unchanged) (unread_at g h i found parts (LeavesOnly on off (From on Unchanged)) unread is) image may in
-      subst P (sym was.2) (each was.0 was.1)
-
   -- what the core shows after a failed opening that read the copies
   pub core_shows : {C D W : Type 0} (g h i : _) (view : C → V) (core : C) (found : Option Found) (parts : Parts C D W) (seen : Option (List ℕ)) (f : Found)
       → LeavesCore {C = C} {D = D} {W = W} {g = g} {h = h} {i = i} M view core (CabinetOpened.Off found parts) seen → found ≡ Some f → IfTold seen (λ image. shows M image ≡ Shows (view parts.core))
   core_shows g h i view core found parts seen f left is = subst (λ (o : Option Found). LeavesCore {g = g} {h = h} {i = i} M view core (CabinetOpened.Off o parts) seen) is left
-
-  -- nothing was written over an image that shows no view: the memory stands locked
-  pub shut_left : (on disk : DiskState) (found : List (List ℕ)) (image : List ℕ) → on.seen ≡ Some image → IsSynced on → LeavesOnly on disk (From on Unchanged) → disk.found ≡ found ++ image ∷ [] → shows M image ≡ Unreadable → IsShut M disk
-  shut_left on disk found image seen synced unwritten listed shut = record {
-    image = image;
-    earlier = found;
-    last = listed;
-    only = λ c may.
-        let was = at_end on disk (From on Unchanged) unwritten c may in
-        was.2 ∙ one_image was.0 image on.seen (synced was.0 was.1) seen;
-    shut = shut;
-  }
 
   -- a locked image shows nothing
   pub lost_shows : (why : Locked) (image : List ℕ) → IsLocked M why image → shows M image ≡ Unreadable

@@ -1,9 +1,9 @@
 -- A line, by the power and by its item.
-use Rattle.std.proofs.Common.{◌≡◌, ◌∙◌, sym, subst, Option, Some, None, refl, ap, ℕ, ◌≤◌, List, [], arith, Result, Ok, Err, OnErr, true}
+use Rattle.std.proofs.Common.{◌≡◌, ◌∙◌, sym, subst, Option, Some, None, refl, ap, ℕ, ◌+◌, ◌≤◌, List, [], length, arith, Result, Ok, Err, OnErr, true}
 use Rattle.gd_base.specs.Judging.Machine.{Machine, Blocks}
 use Rattle.gd_base.specs.Outside.Causes.{Rose}
 use Rattle.gd_script.specs.declared.item.Item.{Item}
-use Rattle.gd_top.specs.Code.Memory.{Moment, CarriesOut, Does, Leaves, Sits}
+use Rattle.gd_top.specs.Code.Memory.{Moment, CarriesOut, Does, Fits, Leaves, Sits}
 use Rattle.gd_top.specs.Claims.MemoryLeft.{IsLeftIn}
 use Rattle.gd_top.specs.Code.Memory.{outside}
 use Rattle.gd_top.specs.Code.Parts.{GivesText}
@@ -12,7 +12,7 @@ use Rattle.gd_top.specs.Run.Items.{item_meaning}
 use Rattle.gd_top.specs.Run.State.{State, Part, Phase, Stops, ends, prints}
 use Rattle.gd_top.specs.Script.Built.{built_line, is_comment}
 use Rattle.gd_top.specs.declared.halt.Halt.{Halt}
-use Rattle.gd_top.proofs.RunLemmas.Cuts.{armed_length}
+use Rattle.gd_top.proofs.RunLemmas.Cuts.{armed_length, calls_many}
 use Rattle.gd_top.proofs.RunLemmas.Equations.{skip_is}
 use Rattle.gd_top.proofs.RunLemmas.Said.{goes_here, gives_no_disk_fault, gives_no_read_fault, moves_on, on_err_at, said, stops_here}
 use Rattle.gd_top.proofs.RunLemmas.Standings.{stand, from_stand}
@@ -29,6 +29,10 @@ pub moved_by : {V A : Type 0} (moment_at : A → Moment V) (memory found : A) �
 moved_by moment_at memory found is h = subst (λ m. Sits (moment_at m)) is h
 
 module _ {V : Type 0} (was : Moment V) where
+  -- what is told of the limit is what is kept of it
+  pub limit_is : (s : Standing V) → Sits was → Fits s was → s.power_ons + length s.armed ≡ was.counts.power_ons + length was.counts.calls.items
+  limit_is s sits fits = omega (arith, fits.power_ons, armed_length s.armed was.disk.armed fits.armed, calls_many was.counts.calls.items was.disk.armed sits.counted.calls)
+
   -- nothing was done
   pub stays : Sits was → Leaves (Err Halt.ScriptFault) was was
   stays sits = record {

@@ -10,27 +10,14 @@ use Rattle.gd_script.specs.declared.item.Item.{Item}
 use Rattle.gd_store.specs.Masks.{Mask}
 use Rattle.gd_top.specs.Code.Standing.{Standing, Later, at}
 use Rattle.gd_top.specs.Run.Items.{item_meaning}
-use Rattle.gd_top.specs.Run.Openings.{power_on, Done}
 use Rattle.gd_top.specs.Report.Lines.{altered_line, locked_line}
 use Rattle.gd_top.specs.Script.Built.{is_built, is_comment, is_cut, needs_memory}
-use Rattle.gd_top.specs.Run.State.{Nothing, Off, Stops, prints, ends}
+use Rattle.gd_top.specs.Run.State.{Off, Stops, prints, ends}
 use Rattle.gd_top.specs.declared.memory.TheConstants.{MOST_POWER_ONS}
 use Rattle.gd_top.proofs.RunLemmas.Equations.{on_is, off_is, cut_is, alter_is, clear_is}
 use Rattle.gd_top.proofs.RunLemmas.Standings.{open_stand, closed_stand, locked_stand}
 
 module _ {V : Type 0} (M : Machine V) (B : Blocks) (lap : ℕ) where
-  -- a power-on that is allowed is the opening
-  pub on_opens : (s : Standing V) (x : Later V) → nat_le MOST_POWER_ONS (s.power_ons + length s.armed) ≡ false → item_meaning M B Item.On (at (closed_stand lap s) x) ≡ power_on M B Nothing Done (at (closed_stand lap s) x)
-  on_opens s x below =
-      let u = at (closed_stand lap s) x in
-      on_is M B u ∙ ap (λ (b : Bool). if b then ends Stops [] u else power_on M B Nothing Done u) below
-
-  -- at the limit it is a script fault
-  pub on_stops : (s : Standing V) (x : Later V) → nat_le MOST_POWER_ONS (s.power_ons + length s.armed) ≡ true → item_meaning M B Item.On (at (closed_stand lap s) x) ≡ ends Stops [] (at (closed_stand lap s) x)
-  on_stops s x limit =
-      let u = at (closed_stand lap s) x in
-      on_is M B u ∙ ap (λ (b : Bool). if b then ends Stops [] u else power_on M B Nothing Done u) limit
-
   -- one cut more, in any phase
   abbrev pub armed_after : ArmedCut → Standing V → Standing V
   armed_after cut s = record s { armed = s.armed ++ cut ∷ [] }

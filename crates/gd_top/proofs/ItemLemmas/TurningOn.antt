@@ -10,8 +10,8 @@ use Rattle.gd_top.specs.Run.Openings.{power_on, Done}
 use Rattle.gd_top.specs.Run.State.{Nothing, Off, Phase, Stops, ends}
 use Rattle.gd_top.specs.declared.halt.Halt.{Halt}
 use Rattle.gd_top.specs.declared.memory.TheConstants.{MOST_POWER_ONS}
-use Rattle.gd_top.proofs.ItemLemmas.Clearing.{as_down, limit_is, opened_by}
-use Rattle.gd_top.proofs.ItemLemmas.Lines.{stays}
+use Rattle.gd_top.proofs.ItemLemmas.Clearing.{as_down, opened_by}
+use Rattle.gd_top.proofs.ItemLemmas.Lines.{limit_is, stays}
 use Rattle.gd_top.proofs.RunLemmas.Equations.{on_is}
 use Rattle.gd_top.proofs.RunLemmas.Said.{moves_not, stops_here}
 
@@ -30,7 +30,7 @@ module _ {V : Type 0} where
         s,
         (λ serves. fits),
         stops_here was.machine (item_meaning was.machine was.blocks Item.On) s (outside was)
-            (λ x. on_by was.machine was.blocks s x true (fits.phase ∙ is) (ap (nat_le MOST_POWER_ONS) (limit_is s was sits fits) ∙ limit)),
+            (λ x. on_by was.machine was.blocks s x true (fits.phase ∙ is) (ap (nat_le MOST_POWER_ONS) (limit_is was s sits fits) ∙ limit)),
       );
       leaves = stays was sits;
       reads_nothing = λ is. absurd (cc is);
@@ -54,6 +54,6 @@ module _ {V : Type 0} where
             report = [];
             printed = Appends-nil was.taken;
             moves = moves_not s (outside was);
-            tells = λ x whole rise. on_by was.machine was.blocks s x false (fits.phase ∙ is) (ap (nat_le MOST_POWER_ONS) (limit_is s was sits fits) ∙ test);
+            tells = λ x whole rise. on_by was.machine was.blocks s x false (fits.phase ∙ is) (ap (nat_le MOST_POWER_ONS) (limit_is was s sits fits) ∙ test);
           },
         ))

@@ -4,16 +4,11 @@ use Rattle.gd_base.specs.Histories.Entry.{Entry}
 use Rattle.gd_base.specs.Judging.Machine.{Machine}
 use Rattle.gd_base.specs.Laws.TellsViews.{HasPayload, TellsViews}
 use Rattle.gd_top.specs.Run.Openings.{resolved, unexplained, cleared}
-use Rattle.gd_top.specs.Run.State.{State, Nothing, Recording, Making, with_entry}
+use Rattle.gd_top.specs.Run.State.{State, Recording, Making, with_entry}
 
 module _ {V : Type 0} (M : Machine V) where
   itself : (v w : V) → v ≡ w → M.same v w ≡ true
   itself v w is = ap (λ (u : V). M.same u w) is ∙ M.same_itself w
-
-  -- nothing was in flight, and the view is that of the history
-  pub found_view : (v : V) (s : State V) → v ≡ s.view → resolved M Nothing v s ≡ s
-  unfolding resolved
-  found_view v s is = ap (λ (b : Bool). if b then s else unexplained v s) (itself v s.view is)
 
   -- what was in flight was not done
   pub found_undone : (e : Entry) (v : V) (s : State V) → v ≡ s.view → resolved M (Recording e) v s ≡ s
@@ -49,7 +44,3 @@ module _ {V : Type 0} (M : Machine V) where
     unfolding resolved
     found_nonempty v s not p q =
         ap (λ (b : Bool). if b then cleared M s else (if M.same v s.view then s else unexplained v s)) (differs v M.empty p q not (M.same v M.empty) refl)
-
-    -- as the old view, where it is found again
-    pub found_other : (v : V) (s : State V) → v ≡ s.view → (v ≡ M.empty → ⊥) → HasPayload M v → HasPayload M M.empty → resolved M Making v s ≡ s
-    found_other v s is not p q = found_nonempty v s not p q ∙ ap (λ (b : Bool). if b then s else unexplained v s) (itself v s.view is)

@@ -22,7 +22,7 @@ use Rattle.gd_base.specs.Histories.ViewOf.{with_entry}
 use Rattle.gd_play.specs.Moving.{open_stage_of}
 use Rattle.gd_base.specs.Outside.Blocks.{IsBlock}
 use Rattle.gd_top.specs.declared.first_core.books.Books.{Books}
-use Rattle.gd_top.specs.declared.first_core.reels_table.ReelsTable.{ReelsTable}
+use Rattle.gd_top.specs.declared.first_core.games.Games.{Games}
 
 -- the view that books and the open play are
 abbrev pub view_of : Books → Option PlayRecord → View
@@ -119,7 +119,7 @@ pub record HasRoom (b : Books) : Type 0 where
   pub games_won : slice_index b.totals (meter_place Meter.GamesWon) < 2 ^ 63
 
 -- the view keeps the rules of a view, and the play machine's table and stage are those of the setup and of the play
-pub record AreFit (setup : Setup) (b : Books) (t : ReelsTable) (play : Option PlayRecord) (at : StageOpen) : Type 0 where
+pub record AreFit (setup : Setup) (b : Books) (t : Games) (play : Option PlayRecord) (at : StageOpen) : Type 0 where
   pub table : t.setup ≡ setup
   pub phase : at ≡ open_stage_of setup play
   pub whole : IsTrue (keeps_rules_so_far setup (view_of b play))

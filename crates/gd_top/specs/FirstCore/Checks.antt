@@ -5,10 +5,8 @@ use Rattle.gd_base.specs.declared.payout.Handpay.{Handpay}
 use Rattle.gd_base.specs.declared.play.PlayRecord.{PlayRecord}
 use Rattle.gd_base.specs.declared.play.StageOpen.{StageOpen}
 use Rattle.gd_base.specs.declared.setup.Setup.{Setup}
-use Rattle.gd_base.specs.Histories.Rounds.{choices_of}
 use Rattle.gd_base.specs.Judging.SoFar.{is_plain}
 use Rattle.gd_base.specs.Payloads.ViewRules.{is_play_record, is_played, is_in, is_some_handpay, is_flagged_last, is_placed, not_both}
-use Rattle.gd_base.specs.Games.Stage.{stage}
 use Rattle.gd_top.specs.declared.first_core.books.Books.{Books}
 
 -- the entries are at most the limit, the devices' numbers add up to them, and no count among the totals is above them
@@ -29,11 +27,7 @@ number_widths number index wager win before after =
 abbrev pub is_plain_record : PlayRecord → Bool
 is_plain_record p = is_plain p && is_play_record p
 
--- it has the win of its stage, which isn't Ended
-abbrev pub is_staged : Setup → PlayRecord → Bool
-is_staged setup p = (p.win == (stage setup p.game p.bet p.words (choices_of p)).win) && not (is_in setup p StageOpen.Ended)
-
--- and also the wager of its bet, and choices that its stages allow
+-- it has the wager of its bet, choices that its stages allow, and the win of its stage, which isn't Ended
 abbrev pub is_going_on : Setup → PlayRecord → Bool
 is_going_on setup p = is_played setup p && not (is_in setup p StageOpen.Ended)
 

@@ -17,8 +17,8 @@ ghost use Rattle.gd_play.specs.PlayMachine.{play_machine_stage, play_machine_pla
 ghost use Rattle.gd_top.specs.FirstCore.Books.{AreFit, HasRoom, acted, begun, is_fresh, left_at, replied, settled, view_of, with_bill, with_wager};
 
 use super::books::{Books, add};
+use super::games::Games;
 use super::judging::{judge_bill, judge_play};
-use super::reels_table::ReelsTable;
 use super::settling::settle;
 use gd_base::{Block, Condition, Event, Game, Meter, PlayRecord, Refusal, Reply, Setup, StageOpen};
 use gd_play::PlayMachine;
@@ -63,7 +63,7 @@ fn new_play(setup: &Setup, books: &Books, bet: u8, drawn: &(u64, Block)) -> Play
 }
 
 /// Takes the wager of a play and begins it. Where it ends at once, its win is posted.
-fn begin(setup: &Setup, books: &mut Books, plays: &mut PlayMachine<ReelsTable>, play: &PlayRecord)
+fn begin(setup: &Setup, books: &mut Books, plays: &mut PlayMachine<Games>, play: &PlayRecord)
     requires room { HasRoom books.old }
     requires wagered { slice_index books.old.totals (meter_place Meter.Wagered) < 2 ^ 63 }
     requires played { slice_index books.old.totals (meter_place Meter.GamesPlayed) < 2 ^ 63 }
@@ -87,7 +87,7 @@ fn begin(setup: &Setup, books: &mut Books, plays: &mut PlayMachine<ReelsTable>, 
 fn act_play(
     setup: &Setup,
     books: &mut Books,
-    plays: &mut PlayMachine<ReelsTable>,
+    plays: &mut PlayMachine<Games>,
     bet: u8,
     draw: &Option<(u64, Block)>,
 ) -> Reply
@@ -115,7 +115,7 @@ fn act_play(
 fn reply_to(
     setup: &Setup,
     books: &mut Books,
-    plays: &mut PlayMachine<ReelsTable>,
+    plays: &mut PlayMachine<Games>,
     moved: Result<StageOpen, Refusal>,
 ) -> Reply
     requires room { HasRoom books.old }
@@ -139,12 +139,7 @@ fn reply_to(
 }
 
 /// Carries a pick out, or refuses it.
-fn act_pick(
-    setup: &Setup,
-    books: &mut Books,
-    plays: &mut PlayMachine<ReelsTable>,
-    door: u8,
-) -> Reply
+fn act_pick(setup: &Setup, books: &mut Books, plays: &mut PlayMachine<Games>, door: u8) -> Reply
     requires fit { AreFit setup.now books.old (play_machine_table plays.old) (play_machine_play plays.old) (play_machine_stage plays.old) }
     ensures answer { result ≡ rule setup.now (view_of books.old (play_machine_play plays.old)) (Event.Pick door) }
     ensures view { (draw : Option (ℕ × List ℕ)) → view_of books.new (play_machine_play plays.new) ≡ acted setup.now (view_of books.old (play_machine_play plays.old)) (Event.Pick door) draw result }
@@ -159,7 +154,7 @@ fn act_pick(
 }
 
 /// Takes the win of the open play, or refuses it.
-fn act_take(setup: &Setup, books: &mut Books, plays: &mut PlayMachine<ReelsTable>) -> Reply
+fn act_take(setup: &Setup, books: &mut Books, plays: &mut PlayMachine<Games>) -> Reply
     requires fit { AreFit setup.now books.old (play_machine_table plays.old) (play_machine_play plays.old) (play_machine_stage plays.old) }
     ensures answer { result ≡ rule setup.now (view_of books.old (play_machine_play plays.old)) Event.Take }
     ensures view { (draw : Option (ℕ × List ℕ)) → view_of books.new (play_machine_play plays.new) ≡ acted setup.now (view_of books.old (play_machine_play plays.old)) Event.Take draw result }
@@ -178,7 +173,7 @@ fn act_take(setup: &Setup, books: &mut Books, plays: &mut PlayMachine<ReelsTable
 pub(crate) fn act(
     setup: &Setup,
     books: &mut Books,
-    plays: &mut PlayMachine<ReelsTable>,
+    plays: &mut PlayMachine<Games>,
     event: &Event,
     draw: &Option<(u64, Block)>,
 ) -> Reply

@@ -14,10 +14,10 @@ use super::FirstCore;
 use super::acting::act;
 use super::books::{Books, empty_books};
 use super::checking::read_payload;
+use super::games::Games;
 use super::judging::judge_play;
 use super::payload_writing::write_payload;
 use super::recording::{draw_fits, kept_of, note};
-use super::reels_table::ReelsTable;
 use super::showing::show_view;
 use gd_base::{
     Block, Core, Device, Event, Game, Loaded, MOST_ENTRIES, Numbered, Reply, Setup, Stepped, Text,
@@ -34,7 +34,7 @@ impl FirstCore {
         FirstCore {
             setup,
             books: empty_books(),
-            plays: PlayMachine::from_parts(ReelsTable { setup }, None),
+            plays: PlayMachine::from_parts(Games { setup }, None),
         }
     }
 
@@ -115,7 +115,7 @@ impl Core for FirstCore {
         match read_payload(&self.setup, image) {
             Some((books, play)) => {
                 self.books = books;
-                self.plays = PlayMachine::from_parts(ReelsTable { setup: self.setup }, play);
+                self.plays = PlayMachine::from_parts(Games { setup: self.setup }, play);
                 Loaded::Read
             }
             None => {
@@ -127,7 +127,7 @@ impl Core for FirstCore {
 
     fn clear(&mut self) {
         self.books = empty_books();
-        self.plays = PlayMachine::from_parts(ReelsTable { setup: self.setup }, None);
+        self.plays = PlayMachine::from_parts(Games { setup: self.setup }, None);
     }
 
     fn count(&self) -> u64 {

@@ -11,8 +11,8 @@ ghost use Rattle.gd_base.specs.Games.Stage.{stage};
 ghost use Rattle.gd_base.specs.Texts.OfViews.{lines_of_open, open_lines, pick_line, play_head, spaced_texts, stage_line};
 ghost use Rattle.gd_top.specs.FirstCore.Checks.{is_in_order};
 
-use super::reels_table::reels_stage;
 use gd_base::{Choices, PlayRecord, Setup, Stage, TEXT_LEN, Text, push_number};
+use gd_games::stage;
 use gd_reels::{Window, prize, window};
 
 /// Appends what a play was begun with. At most 111 bytes.
@@ -111,7 +111,7 @@ fn open_stage(setup: &Setup, play: &PlayRecord) -> Stage
         turns: play.turns,
         colours: play.colours,
     };
-    reels_stage(setup, play.bet, &play.words, &choices)
+    stage(setup, play.game, play.bet, &play.words, &choices)
 }
 
 /// Appends the lines of an open play. At most 227 bytes.

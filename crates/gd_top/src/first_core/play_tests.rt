@@ -3,14 +3,14 @@ ghost use Rattle.std.specs.Prelude.{◌≡◌, ◌≤◌};
 ghost use Rattle.gd_base.specs.declared.game.Game.{Game};
 ghost use Rattle.gd_base.specs.Histories.Rounds.{choices_of, no_choices};
 
-use super::reels_table::ReelsTable;
-use crate::built_in::built_in;
+use super::games::Games;
 use gd_base::{Block, Colour, Event, Game, PlayRecord, Refusal, StageOpen};
+use gd_games::built_in;
 use gd_play::{Paytable, PlayMachine};
 use std::process::Abort;
 
-fn table() -> ReelsTable {
-    ReelsTable { setup: built_in() }
+fn table() -> Games {
+    Games { setup: built_in() }
 }
 
 // A play of the reels as it begins.

@@ -12,29 +12,11 @@ use super::books::Books;
 use super::open_play::words_fit;
 use gd_base::{Block, Device, Numbered, Reply};
 
-/// The place of a device in the list of what is kept, from 0.
-fn place(device: Device) -> usize
-    ensures value { result ≡ device_place device }
-    ensures within { result < 9 }
-{
-    match device {
-        Device::Bill => 0,
-        Device::Coin => 1,
-        Device::Reader => 2,
-        Device::Printer => 3,
-        Device::Hopper => 4,
-        Device::Doors => 5,
-        Device::Player => 6,
-        Device::Attendant => 7,
-        Device::Power => 8,
-    }
-}
-
 /// A device's last number, and the reply to it.
 pub(crate) fn kept_of(books: &Books, device: Device) -> (u64, Option<Reply>)
     ensures { result ≡ kept_at books.now.kept (device_place device) }
 {
-    books.kept[place(device)]
+    books.kept[device.place()]
 }
 
 /// Keeps the reply to a device's next number.
@@ -42,7 +24,7 @@ fn keep(kept: &mut [(u64, Option<Reply>); 9], device: Device, number: u64, reply
     requires { number ≡ (kept_at kept.old (device_place device)).0 + 1 }
     ensures { kept.new ≡ with_reply device reply kept.old }
 {
-    kept[place(device)] = (number, Some(reply));
+    kept[device.place()] = (number, Some(reply));
 }
 
 /// What the type of a block makes true.

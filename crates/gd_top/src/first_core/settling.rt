@@ -5,7 +5,7 @@ ghost use Rattle.gd_play.specs.PlayMachine.{play_machine_stage, play_machine_pla
 ghost use Rattle.gd_top.specs.FirstCore.Books.{HasRoom, left_at, settled, with_win};
 
 use super::books::{Books, add};
-use super::reels_table::ReelsTable;
+use super::games::Games;
 use gd_base::{Handpay, Meter, Setup, StageOpen};
 use gd_play::PlayMachine;
 
@@ -31,7 +31,7 @@ fn post_win(setup: &Setup, books: &mut Books, win: u64)
 }
 
 /// The win of the open play.
-fn open_win(plays: &PlayMachine<ReelsTable>) -> u64
+fn open_win(plays: &PlayMachine<Games>) -> u64
     requires { IsSome (play_machine_play plays.now) }
     ensures { IfSome (play_machine_play plays.now) (λ p. result ≡ p.win) }
 {
@@ -45,7 +45,7 @@ fn open_win(plays: &PlayMachine<ReelsTable>) -> u64
 pub(crate) fn settle(
     setup: &Setup,
     books: &mut Books,
-    plays: &mut PlayMachine<ReelsTable>,
+    plays: &mut PlayMachine<Games>,
     phase: StageOpen,
 )
     requires room { HasRoom books.old }

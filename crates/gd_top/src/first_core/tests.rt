@@ -1,11 +1,11 @@
 // The first core through the bound of a core: plays to their end, wins that are held, repeats and steps, payloads.
 use super::FirstCore;
 use super::play_tests::pick_words;
-use crate::built_in::built_in;
 use gd_base::{
     Block, Condition, Core, Device, Event, Game, HEAD_LEN, Loaded, Numbered, PAYLOAD_LEN, Refusal,
     Reply, Stepped, Text, What,
 };
+use gd_games::built_in;
 use std::process::Abort;
 
 // The answer to an event, on these words where it draws.

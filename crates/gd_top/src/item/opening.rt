@@ -1,7 +1,7 @@
 //! The opening of a closed memory, as often as a cut comes in it.
 
 ghost use Rattle.std.specs.Prelude.{◌≡◌, ◌⊎◌, ◌+◌, ◌*◌, ◌<◌, ◌≤◌, ◌++◌, ◌||◌, true, false, List, ℕ, Ok, Err, OnOk, OnErr, Some};
-ghost use Rattle.gd_base.specs.Outside.Causes.{Rose};
+ghost use Rattle.arrayvec.specs.ArrayString.{array_string_len};
 ghost use Rattle.gd_disk.specs.Disk.{Unchanged};
 ghost use Rattle.gd_disk.specs.Runs.{LeavesOnly};
 ghost use Rattle.gd_disk.specs.declared.lengths.TheConstants.{DISK_LEN};
@@ -9,7 +9,6 @@ ghost use Rattle.gd_store.specs.OpenAnswer.{IsOpenable};
 ghost use Rattle.gd_store.specs.Repair.{repair_needed};
 ghost use Rattle.gd_store.specs.Writing.{From};
 ghost use Rattle.gd_top.specs.Code.Memory.{moment, moment_closed, unless_failed, IsDown, IsLapFound, LeavesDisk, Opens, Reopens};
-ghost use Rattle.gd_top.specs.Code.Parts.{GivesText};
 ghost use Rattle.gd_top.specs.Report.Lines.{is_copy_full, is_found_full, locked_line, power_line, start_text};
 ghost use Rattle.gd_top.specs.Run.State.{Off};
 
@@ -115,12 +114,12 @@ pub(crate) fn open_once<C: Core, K: Sink, L: LabDisk, W: Draws>(
             parts,
         } => {
             counts.offers += 1;
+            write_power_line(text, counts.power_ons, &found);
+            let given = give_text(output, text);
             if parts.disk.cuts_armed() < armed {
                 counts.fall();
-                let given = give_power_line(output, text, counts.power_ons, &found);
                 return (Memory::Off(parts), unless_failed(given, Ok(Opened::Fell)));
             }
-            let given = give_power_line(output, text, counts.power_ons, &found);
             (
                 Memory::Off(parts),
                 unless_failed(given, Err(Halt::DiskFault)),
@@ -179,8 +178,7 @@ fn write_opening(text: &mut Text, number: u64, found: &Found, count: u64)
     ensures { text.new.bytes
         ≡ power_line number found.now ++ start_text (is_found_full found.now) count (repair_needed found.now) }
 {
-    text.clear();
-    push_power_line(text, number, found);
+    write_power_line(text, number, found);
     if !is_found_full(found) {
         push_start_line(text, count, found);
     }
@@ -207,23 +205,15 @@ fn is_copy_full(state: CopyState) -> bool
 fn write_locked(text: &mut Text, number: u64, found: &Found)
     ensures { text.new.bytes ≡ power_line number found.now ++ locked_line }
 {
-    text.clear();
-    push_power_line(text, number, found);
+    write_power_line(text, number, found);
     push_locked_line(text);
 }
 
-/// Prints what power-on `number` found, the power having gone off behind that.
-fn give_power_line<K: Sink>(
-    output: &mut K,
-    text: &mut Text,
-    number: u64,
-    found: &Found,
-) -> Result<(), Halt>
-    ensures given { GivesText result (K.taken output.old) (K.taken output.new) (power_line number found.now) }
-    ensures later { K.faults output.old ≤ K.faults output.new }
-    ensures cause { OnErr result (Rose (K.faults output.old) (K.faults output.new)) }
+/// Writes the line of power-on `number` over what stands in `text`. At most 87 bytes.
+fn write_power_line(text: &mut Text, number: u64, found: &Found)
+    ensures bytes { text.new.bytes ≡ power_line number found.now }
+    ensures room { array_string_len text.new ≤ 87 }
 {
     text.clear();
     push_power_line(text, number, found);
-    give_text(output, text)
 }

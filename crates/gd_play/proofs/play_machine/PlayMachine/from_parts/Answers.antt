@@ -7,8 +7,7 @@ use Rattle.gd_play.proofs.play_machine.PlayMachine.from_parts.Goals as goal
 pub invariant_of-result : goal.invariant_of-result
 invariant_of-result g c =
     let setup = g.P.Paytable.setup c.args.table in
-    let has_game = g.P.Paytable.has_game c.args.table in
     record {
-      kept = ap (λ (s : StageOpen). are_kept setup has_game c.args.open_play s) c.open_phase-phase.ensures
-          ∙ kept_parts setup has_game c.args.open_play c.requires.games c.requires.rules;
+      kept = ap (λ (s : StageOpen). are_kept setup c.args.open_play s) c.open_phase-phase.ensures
+          ∙ kept_parts setup c.args.open_play c.requires.rules;
     }

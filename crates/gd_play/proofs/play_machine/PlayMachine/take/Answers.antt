@@ -10,5 +10,5 @@ returns-clause-play g c =
     let now = c.args.self.now in
     let setup = g.P.Paytable.setup now.table in
     let p = c.in-Some.field-0 in
-    let facts = held setup (g.P.Paytable.has_game now.table) now.play p now.phase c.in-Some.is now.kept in
+    let facts = held setup now.play p now.phase c.in-Some.is now.kept in
     c.in-Some.is ∙ ap (λ (n : ℕ). Some (record p { win = n })) facts.win ∙ sym (ap (play_after setup Event.Take) c.in-Some.is)

@@ -7,7 +7,7 @@ use Rattle.gd_play.specs.Judging.{refusal, judgement}
 use Rattle.gd_play.specs.Moving.{stage_after, play_after}
 use Rattle.gd_play.specs.PlayMachine.{play_machine_stage, play_machine_play, play_machine_table}
 use Rattle.gd_top.specs.FirstCore.Books.{acted, view_of}
-use Rattle.gd_top.proofs.FirstCoreLemmas.Plays.{IsTried, kept_by_fit, room_by, stands, small_by, taken_small, take_tried, err_map, err_both}
+use Rattle.gd_top.proofs.FirstCoreLemmas.Plays.{IsTried, kept_by_fit, room_by, stands, small_by, taken_small, take_phase, take_tried, err_map, err_both}
 use Rattle.gd_top.proofs.first_core.acting.act_take.Goals as goal
 
 pub returns-then-is_some-clause-view : goal.returns-then-is_some-clause-view
@@ -56,3 +56,13 @@ returns-clause-view c =
       same_play = err_both r (λ t u. ap play_machine_play t.1 ∙ ap play_machine_play u) c.reply_to.ensures.stays c.take-moved.ensures.stays;
     } in
     λ draw. take_tried setup b after play mid left at r draw tried k ∙ ap (acted setup (view_of b play) event draw) (sym c.reply_to.ensures.answer)
+
+pub returns-clause-phase : goal.returns-clause-phase
+returns-clause-phase c =
+    let play = play_machine_play c.args.plays.now in
+    let at = play_machine_stage c.args.plays.now in
+    let r = c.take-moved.result in
+    take_phase c.args.setup.now (play_machine_table c.args.plays.now).setup play at (play_machine_stage c.take-moved.new.self) (play_machine_stage c.reply_to.new.plays) r
+    (play_machine_play c.take-moved.new.self) (play_machine_play c.reply_to.new.plays) c.take-moved.ensures.answer c.requires.fit.phase c.reply_to.ensures.phase c.take-moved.ensures.phase c.reply_to.ensures.play
+    (err_map r (λ t. ap play_machine_stage t) c.take-moved.ensures.stays)
+    (err_both r (λ t u. ap play_machine_play t.1 ∙ ap play_machine_play u) c.reply_to.ensures.stays c.take-moved.ensures.stays)

@@ -91,9 +91,9 @@ returns-then-cuts_armed-armed-clause-does g c =
     let disk = g.L.Disk.state left.disk in
     let v = g.C.Core.view left.core in
     let k3 = c.fall.new.self in
-    let r = c.give_power_line-given.result in
-    let given = c.give_power_line-given.ensures in
-    let now = moment_closed Off g.C.Core.meaning g.C.Core.view g.L.Disk.state g.W.Draws.block_of g.K.Sink.taken g.K.Sink.faults left k3 c.give_power_line-given.new.output in
+    let r = c.give_text-given-in-Off-Some-default.result in
+    let given = c.give_text-given-in-Off-Some-default.ensures in
+    let now = moment_closed Off g.C.Core.meaning g.C.Core.view g.L.Disk.state g.W.Draws.block_of g.K.Sink.taken g.K.Sink.faults left k3 c.give_text-given-in-Off-Some-default.new.output in
     let counts : CountsOpened k k3 lap = record { lines = c.fall.ensures.lines ∙ ap (λ (x : Counts). x.lines) counted; power_ons = c.fall.ensures.power_ons ∙ power_ons; lap_is = c.fall.ensures.lap; offers = c.fall.ensures.offers ∙ ap (λ (x : Counts). x.offers + 1) counted } in
     let machine = c.in-Off-Some-default.ensures.meaning ∙ c.find_lap.ensures.meaning in
     let told = some_at c.in-Off-Some-default.found' c.in-Off-Some-default.found (found_in LAYOUT image) (told_at mid.seen image _ read.seen c.in-Off-Some-default.ensures.what) c.in-Off-Some-default.found-is in
@@ -101,7 +101,7 @@ returns-then-cuts_armed-armed-clause-does g c =
     let unready : IsUnready lap image mid disk v M B = over_core (IsUnready lap image mid disk v) N M C B c.find_lap.ensures.meaning (ap g.W.Draws.block_of c.find_lap.ensures.draws)
     (record { shown = shown; run = told_at mid.seen image _ read.seen c.in-Off-Some-default.ensures.run; either = opening_near N C lap mid disk image v read.seen read.synced shown c.in-Off-Some-default.ensures.any_moment }) in
     let cut = was_cut _ tt mid disk unready.run (ok_of c.find_lap.result _ went d.is_on) (omega (arith, c.cuts_armed.ensures, c.cuts_armed-armed.ensures, c.if-cuts_armed-armed.true)) in
-    let text = ap (λ (m : ℕ). power_line m c.in-Off-Some-default.found) (c.fall.ensures.power_ons ∙ power_ons) ∙ ap (λ (f : Found). power_line (k.power_ons + 1) f) told in
+    let text = c.write_power_line.ensures.bytes ∙ ap (λ (m : ℕ). power_line m c.in-Off-Some-default.found) power_ons ∙ ap (λ (f : Found). power_line (k.power_ons + 1) f) told in
     let gives = subst (GivesText r _ _) text given.given in
     let falls = c.fall.ensures.falls ∙ ap (λ (x : Counts). x.falls.items ++ falls_by x.calls.items (x.offers + 1)) counted in
     subst (λ ended. Opens c.args.is_making ended was now) (sym c.unless_failed-then-cuts_armed-armed.ensures)
@@ -287,9 +287,9 @@ returns-else-cuts_armed-armed-clause-does g c =
     let left = c.in-Off-Some-default.parts in
     let disk = g.L.Disk.state left.disk in
     let v = g.C.Core.view left.core in
-    let r = c.give_power_line-given-in-Off-Some-default.result in
-    let given = c.give_power_line-given-in-Off-Some-default.ensures in
-    let now = moment_closed Off g.C.Core.meaning g.C.Core.view g.L.Disk.state g.W.Draws.block_of g.K.Sink.taken g.K.Sink.faults left (record k2 { offers = k2.offers + 1 }) c.give_power_line-given-in-Off-Some-default.new.output in
+    let r = c.give_text-given-in-Off-Some-default.result in
+    let given = c.give_text-given-in-Off-Some-default.ensures in
+    let now = moment_closed Off g.C.Core.meaning g.C.Core.view g.L.Disk.state g.W.Draws.block_of g.K.Sink.taken g.K.Sink.faults left (record k2 { offers = k2.offers + 1 }) c.give_text-given-in-Off-Some-default.new.output in
     let counts : CountsOpened k (record k2 { offers = k2.offers + 1 }) lap = record { lines = ap (λ (x : Counts). x.lines) counted; power_ons = power_ons; lap_is = refl; offers = ap (λ (x : Counts). x.offers + 1) counted } in
     let machine = c.in-Off-Some-default.ensures.meaning ∙ c.find_lap.ensures.meaning in
     let told = some_at c.in-Off-Some-default.found' c.in-Off-Some-default.found (found_in LAYOUT image) (told_at mid.seen image _ read.seen c.in-Off-Some-default.ensures.what) c.in-Off-Some-default.found-is in
@@ -297,7 +297,7 @@ returns-else-cuts_armed-armed-clause-does g c =
     let unready : IsUnready lap image mid disk v M B = over_core (IsUnready lap image mid disk v) N M C B c.find_lap.ensures.meaning (ap g.W.Draws.block_of c.find_lap.ensures.draws)
     (record { shown = shown; run = told_at mid.seen image _ read.seen c.in-Off-Some-default.ensures.run; either = opening_near N C lap mid disk image v read.seen read.synced shown c.in-Off-Some-default.ensures.any_moment }) in
     let fault = was_fault _ tt mid disk unready.run (ok_of c.find_lap.result _ went d.is_on) (omega (arith, c.cuts_armed.ensures, c.cuts_armed-armed.ensures, c.if-cuts_armed-armed.false)) in
-    let text = ap (λ (m : ℕ). power_line m c.in-Off-Some-default.found) power_ons ∙ ap (λ (f : Found). power_line (k.power_ons + 1) f) told in
+    let text = c.write_power_line.ensures.bytes ∙ ap (λ (m : ℕ). power_line m c.in-Off-Some-default.found) power_ons ∙ ap (λ (f : Found). power_line (k.power_ons + 1) f) told in
     let gives = subst (GivesText r _ _) text given.given in
     subst (λ ended. Opens c.args.is_making ended was now) (sym c.unless_failed-in-Off-Some-default.ensures)
     (opens_failed c.args.is_making was now lap counts machine (λ l i. c.in-Off-Some-default.ensures.draws l i ∙ ap (λ draws. g.W.Draws.block_of draws l i) c.find_lap.ensures.draws) r _ gives given.later given.cause

@@ -12,7 +12,7 @@ use Rattle.gd_base.specs.Histories.Devices.{with_reply}
 use Rattle.gd_base.proofs.AnswerLemmas.Answer.{answer_new}
 use Rattle.gd_play.specs.PlayMachine.{play_machine_stage, play_machine_play, play_machine_table}
 use Rattle.gd_top.specs.FirstCore.Books.{view_of}
-use Rattle.gd_top.specs.declared.first_core.reels_table.ReelsTable.{ReelsTable}
+use Rattle.gd_top.specs.declared.first_core.games.Games.{Games}
 use Rattle.gd_top.proofs.FirstCoreLemmas.Plays.{kept_by_fit}
 use Rattle.gd_top.proofs.FirstCoreLemmas.Wholes.{after_entry, whole_after}
 use Rattle.gd_top.proofs.FirstCoreLemmas.Kept.{Kept}
@@ -38,7 +38,7 @@ invariant_of-self c =
     (λ x. view_of (c.note.ensures x) (play_machine_play c.act-reply.new.plays)) ∙ (λ x. record (A x) { count = (A x).count + 1; kept = with_reply (device_of e.event) reply (A x).kept }) in
     record {
       fit = record {
-        table = ap (λ (t : ReelsTable). t.setup) c.act-reply.ensures.table ∙ core.fit.table;
+        table = ap (λ (t : Games). t.setup) c.act-reply.ensures.table ∙ core.fit.table;
         phase = c.act-reply.ensures.phase;
         whole = ap (keeps_rules_so_far core.setup) is
             ∙ whole_after core.setup core.books play e.number e.event draw reply k c.if-self-ge-MOST_ENTRIES.false c.act-reply.ensures.answer drawn c.draw_fits.ensures;
