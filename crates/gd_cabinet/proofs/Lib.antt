@@ -1,5 +1,6 @@
 mod Cutting
 mod Moments
 mod OneEvent
+mod PagesMoved
 pub mod Showing
 mod WholeOpenings

@@ -4,5 +4,6 @@ pub mod CoreLeft
 pub mod OpenAnswer
 pub mod OpenMoments
 pub mod OpenRuns
+pub mod Pages
 pub mod Shown
 pub mod ExactAnswers

@@ -1,8 +1,9 @@
 //! A core on a store.
 
-ghost use Rattle.std.specs.Prelude.{◌≡◌, not, true, false, List, ℕ, Some};
+ghost use Rattle.std.specs.Prelude.{◌≡◌, ◌<◌, not, true, false, List, ℕ, Some};
 ghost use Rattle.std.specs.Coded.{Coded-set};
 ghost use Rattle.gd_disk.specs.Disk.{IsSynced};
+ghost use Rattle.gd_disk.specs.declared.lengths.TheConstants.{PAGE_COUNT};
 ghost use Rattle.gd_base.specs.Payloads.Spelled.{Shows, coded_spelled};
 ghost use Rattle.gd_store.specs.Copy.{HoldsBoth};
 ghost use Rattle.gd_store.specs.declared.copy.layout.TheConstants.{LAYOUT};
@@ -25,17 +26,19 @@ pub struct Parts<C, D, W> {
 }
 
 /// A core whose history both copies on a disk hold, until a call to the disk fails. From then on no event is taken, and
-/// the core shows what was committed last.
+/// the core shows what was committed last. `page` is the page of the copies that is checked next.
 #[derive(Drop)]
 pub struct Cabinet<C: Core, D: Disk, W: Draws> {
     pub(crate) core: C,
     pub(crate) store: Store<D>,
     pub(crate) draws: W,
     pub(crate) lap: u64,
+    pub(crate) page: u8,
     ghost spelled: { (C.meaning core).spelled (store_payload store)
         ≡ Shows (C.view core) } by { Coded-set (coded_spelled C.coded) _ _ },
     ghost count: { (C.meaning core).count (C.view core) ≡ store_sequence store },
     ghost power: { (D.state (store_disk store)).is_on ≡ not (store_stopped store) },
+    ghost page_within: { page < PAGE_COUNT },
 }
 
 impl<C: Core, D: Disk, W: Draws> Cabinet<C, D, W> {
@@ -92,9 +95,9 @@ pub(crate) fn parts_of<C, D: Disk, W>(core: C, store: Store<D>, draws: W) -> Par
 }
 
 impl<C: Core, L: LabDisk, W: Draws> Cabinet<C, L, W> {
-    ghost use Rattle.std.specs.Prelude.{◌≤◌, ◌<◌, ◌++◌, ◌∷◌, [], length};
+    ghost use Rattle.std.specs.Prelude.{◌≤◌, ◌++◌, ◌∷◌, [], length};
     ghost use Rattle.gd_disk.specs.Disk.{Loses, Unchanged, KeepsCounts};
-    ghost use Rattle.gd_cabinet.specs.Cabinet.{cabinet_core, cabinet_disk, cabinet_draws, cabinet_lap, cabinet_stopped};
+    ghost use Rattle.gd_cabinet.specs.Cabinet.{cabinet_core, cabinet_disk, cabinet_draws, cabinet_lap, cabinet_page, cabinet_stopped};
 
     /// Adds a cut behind the armed ones of the disk, as its own call does, and changes nothing else. It comes at call
     /// `count` of its unit, counted from 1 from when it is the first; `torn` says what it leaves.
@@ -113,6 +116,7 @@ impl<C: Core, L: LabDisk, W: Draws> Cabinet<C, L, W> {
         ensures core { cabinet_core self.new ≡ cabinet_core self.old }
         ensures draws { cabinet_draws self.new ≡ cabinet_draws self.old }
         ensures lap { cabinet_lap self.new ≡ cabinet_lap self.old }
+        ensures page { cabinet_page self.new ≡ cabinet_page self.old }
         ensures stopped { cabinet_stopped self.new ≡ cabinet_stopped self.old }
     {
         self.store.arm(unit, count, torn);

@@ -2,6 +2,7 @@
 #![tactic(auto)]
 
 mod cabinet;
+mod idling;
 mod opening;
 mod submitting;
 #[cfg(test)]

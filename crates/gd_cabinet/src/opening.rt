@@ -16,7 +16,7 @@ ghost use Rattle.gd_cabinet.specs.OpenMoments.{IsOpening, opening_syncs, start_o
 ghost use Rattle.gd_cabinet.specs.OpenRuns.{RunsBy, OpeningRun, FirstReading};
 ghost use Rattle.gd_cabinet.specs.Shown.{shows, IsInBoth, ShowsEither};
 ghost use Rattle.gd_cabinet.specs.ExactAnswers.{loading, AnswersTo, IsLostWhere};
-ghost use Rattle.gd_cabinet.specs.Cabinet.{cabinet_core, cabinet_disk, cabinet_lap, cabinet_stopped, cabinet_draws};
+ghost use Rattle.gd_cabinet.specs.Cabinet.{cabinet_core, cabinet_disk, cabinet_lap, cabinet_page, cabinet_stopped, cabinet_draws};
 ghost use Rattle.gd_disk.specs.CutRuns.{IsCompleteRun, RunOf};
 ghost use Rattle.gd_base.specs.Payloads.LoadedView.{at_sequence, view_loaded};
 ghost use Rattle.gd_store.specs.Store.{store_disk, store_payload, store_sequence, store_stopped};
@@ -84,6 +84,7 @@ fn open_store<C: Core, D: Disk, W: Draws>(
         (D.state (disk_in result)) (IsOpening (C.meaning parts.core) (W.block_of parts.draws) lap
         (D.state parts.disk)) }
     ensures ready { OnReady result (λ cabinet found. (cabinet_stopped cabinet ≡ false) × (cabinet_lap cabinet ≡ lap)) }
+    ensures first_page { OnReady result (λ cabinet found. cabinet_page cabinet ≡ 0) }
     ensures both { OnReady result (λ cabinet found. (image : List ℕ)
         → (D.state (cabinet_disk cabinet)).may_find image
         → IsInBoth (C.meaning parts.core) (C.view (cabinet_core cabinet)) image) }
@@ -182,6 +183,7 @@ impl<C: Core, D: Disk, W: Draws> Cabinet<C, D, W> {
             (D.state parts.disk)) }
         ensures ready { OnReady result (λ cabinet found. (cabinet_stopped cabinet ≡ false)
             × (cabinet_lap cabinet ≡ lap)) }
+        ensures first_page { OnReady result (λ cabinet found. cabinet_page cabinet ≡ 0) }
         ensures both { OnReady result (λ cabinet found. (image : List ℕ)
             → (D.state (cabinet_disk cabinet)).may_find image
             → IsInBoth (C.meaning parts.core) (C.view (cabinet_core cabinet)) image) }
@@ -318,6 +320,7 @@ pub(crate) fn offer_start<C: Core, D: Disk, W: Draws>(
         → IsInBoth (C.meaning core) (C.view (cabinet_core cabinet)) image) }
     ensures runs { IfOk result (λ cabinet. (cabinet_stopped cabinet ≡ false) × (cabinet_lap cabinet ≡ lap)
         × (C.meaning (cabinet_core cabinet) ≡ C.meaning core)) }
+    ensures first_page { IfOk result (λ cabinet. cabinet_page cabinet ≡ 0) }
     ensures draws { IfOk result (λ cabinet. (l i : ℕ) → W.block_of (cabinet_draws cabinet) l i ≡ W.block_of draws l i) }
     ensures any_moment { IfOk result
         (λ cabinet. LeavesOnly (D.state (store_disk store)) (D.state (cabinet_disk cabinet))
@@ -354,6 +357,7 @@ pub(crate) fn offer_start<C: Core, D: Disk, W: Draws>(
                 store,
                 draws,
                 lap,
+                page: 0,
             })
         }
         Err(Off) => Err(parts_of(core, store, draws)),

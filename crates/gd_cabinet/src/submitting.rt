@@ -8,7 +8,8 @@ ghost use Rattle.gd_base.specs.Judging.Answer.{answer, is_new, draw_for};
 ghost use Rattle.gd_store.specs.Writing.{MadeSyncs};
 ghost use Rattle.gd_cabinet.specs.Answers.{cabinet_answer, view_offered, event_syncs};
 ghost use Rattle.gd_cabinet.specs.Shown.{ShowsEither, IsInBoth, shows};
-ghost use Rattle.gd_cabinet.specs.Cabinet.{cabinet_core, cabinet_disk, cabinet_draws, cabinet_lap, cabinet_stopped};
+ghost use Rattle.gd_cabinet.specs.Cabinet.{cabinet_core, cabinet_disk, cabinet_draws, cabinet_lap, cabinet_page, cabinet_payload, cabinet_stopped};
+ghost use Rattle.gd_cabinet.specs.Pages.{WritesChanges};
 ghost use Rattle.gd_base.specs.Payloads.Spelled.{Shows};
 ghost use Rattle.gd_store.specs.Copy.{boots};
 ghost use Rattle.gd_store.specs.Store.{store_disk, store_payload, store_sequence, store_stopped};
@@ -69,6 +70,11 @@ impl<C: Core, D: Disk, W: Draws> Cabinet<C, D, W> {
             (ShowsEither (C.meaning (cabinet_core self.old)) (C.view (cabinet_core self.old))
             (view_offered (C.meaning (cabinet_core self.old)) (W.block_of (cabinet_draws self.old))
             (cabinet_lap self.old) (C.view (cabinet_core self.old)) e.now)) }
+        ensures pages { cabinet_stopped self.old ≡ false
+            → WritesChanges (C.meaning (cabinet_core self.old)) (view_offered (C.meaning (cabinet_core self.old))
+            (W.block_of (cabinet_draws self.old)) (cabinet_lap self.old) (C.view (cabinet_core self.old)) e.now)
+            (cabinet_payload self.old) (cabinet_payload self.new) result (D.state (cabinet_disk self.old))
+            (D.state (cabinet_disk self.new)) }
         ensures stopped { IsErrOf result Stop.Stopped ↔ (cabinet_stopped self.old ≡ true) }
         ensures off { IsErr result ↔ (cabinet_stopped self.new ≡ true) }
         ensures cause { IsErrOf result Stop.Off
@@ -100,6 +106,7 @@ impl<C: Core, D: Disk, W: Draws> Cabinet<C, D, W> {
         ensures meaning { C.meaning (cabinet_core self.new) ≡ C.meaning (cabinet_core self.old) }
         ensures draws { (l i : ℕ) → W.block_of (cabinet_draws self.new) l i ≡ W.block_of (cabinet_draws self.old) l i }
         ensures lap { cabinet_lap self.new ≡ cabinet_lap self.old }
+        ensures page { cabinet_page self.new ≡ cabinet_page self.old }
     {
         if self.store.is_stopped() {
             return Err(Stop::Stopped);
@@ -151,6 +158,8 @@ fn commit_view<C: Core, D: Disk>(core: &C, store: &mut Store<D>) -> Result<(), O
     ensures any_moment { LeavesOnly (D.state (store_disk store.old)) (D.state (store_disk store.new))
         (λ image. (boots LAYOUT image ≡ Some (store_sequence store.old, store_payload store.old))
         ⊎ (shows (C.meaning core.now) image ≡ Shows (C.view core.now))) }
+    ensures pages { WritesChanges (C.meaning core.now) (C.view core.now) (store_payload store.old)
+        (store_payload store.new) result (D.state (store_disk store.old)) (D.state (store_disk store.new)) }
     ensures answer { Answers result (D.state (store_disk store.old)) (D.state (store_disk store.new)) }
     ensures fewer { OnErr result ((D.state (store_disk store.new)).syncs < (D.state (store_disk store.old)).syncs + 6) }
     ensures run { RunOf 6 result (D.state (store_disk store.old)) (D.state (store_disk store.new)) }
@@ -197,6 +206,9 @@ pub(crate) fn offer<C: Core, D: Disk, W: Draws>(
     ensures any_moment { LeavesOnly (D.state (store_disk store.old)) (D.state (store_disk store.new))
         (ShowsEither (C.meaning core.old) (C.view core.old) (view_offered (C.meaning core.old) (W.block_of draws.old)
         lap (C.view core.old) e.now)) }
+    ensures pages { WritesChanges (C.meaning core.old) (view_offered (C.meaning core.old) (W.block_of draws.old) lap
+        (C.view core.old) e.now) (store_payload store.old) (store_payload store.new) result
+        (D.state (store_disk store.old)) (D.state (store_disk store.new)) }
     ensures outcome { Answers result (D.state (store_disk store.old)) (D.state (store_disk store.new)) }
     ensures fewer { OnErr result ((D.state (store_disk store.new)).syncs <
         (D.state (store_disk store.old)).syncs + event_syncs (C.meaning core.old) (C.view core.old) e.now) }

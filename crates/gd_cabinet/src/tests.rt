@@ -13,9 +13,12 @@ use gd_base::{
     Block, Core, Device, Event, ListDraws, Loaded, MOST_ENTRIES, Numbered, PAYLOAD_LEN, Reply,
     Stepped, Text, What,
 };
-use gd_disk::{ArmedCut, CutUnit, DISK_LEN, Disk, LabDisk, MemoryDisk, MemoryLab};
-use gd_store::{CopyState, Found, Made, Room, Store};
+use gd_disk::{
+    ArmedCut, COPY_LEN, CutUnit, DISK_LEN, Disk, FileDisk, LabDisk, MemoryDisk, MemoryLab,
+};
+use gd_store::{CopyState, Found, Made, PageState, Room, Store};
 use std::alloc::Global;
+use std::fs;
 use std::process::Abort;
 use std::test::Fail;
 
@@ -217,7 +220,7 @@ fn keeps_events(rt: HostRuntime) -> Result<(), Fail> {
 }
 
 /// What a memory made by 11 calls of the disk does whose disk fails at this call after them. An opening makes four
-/// reads, and a commit six writes and six syncs.
+/// reads, and a commit of one changed page eight writes and six syncs.
 fn fails_at<D: Disk + Drop>(
     rt: &impl Abort,
     alloc: Global,
@@ -226,13 +229,13 @@ fn fails_at<D: Disk + Drop>(
 ) -> Result<(), Fail> {
     match opened(rt, made(rt, alloc, disk, 0)?) {
         CabinetOpened::Off { found, parts: _ } => {
-            assert!(rt; call <= 16);
+            assert!(rt; call <= 18);
             assert_eq!(rt; found.is_none(), call <= 2);
         }
         CabinetOpened::Ready { cabinet, found: _ } => {
             let mut cabinet = cabinet;
-            assert!(rt; call > 16);
-            if call <= 28 {
+            assert!(rt; call > 18);
+            if call <= 32 {
                 assert_eq!(rt; cabinet.submit(&bill(2)), Err(Stop::Off));
                 assert_eq!(rt; cabinet.core().count(), 1);
                 assert_eq!(rt; cabinet.submit(&bill(2)), Err(Stop::Stopped));
@@ -248,7 +251,7 @@ fn fails_at<D: Disk + Drop>(
 
 #[test]
 fn stops_where_the_disk_fails(rt: HostRuntime) -> Result<(), Fail> {
-    for call in 1..31 {
+    for call in 1..35 {
         let zeros = vec![in rt.alloc(); 0; DISK_LEN as usize]?;
         let disk = MemoryDisk::of(zeros, Some(11 + call));
         fails_at(&rt, rt.alloc(), disk, call)?;
@@ -404,19 +407,19 @@ fn leaves_either<L: LabDisk + Drop>(
     Ok(())
 }
 
-/// The start makes six writes and six syncs, and so does the bill.
+/// The start makes eight writes and six syncs, and so does the bill.
 fn is_cut_at<L: LabDisk + Drop>(
     rt: &impl Abort,
     alloc: Global,
     lab: L,
     cut: ArmedCut,
 ) -> Result<(), Fail> {
-    leaves_either(rt, armed(rt, alloc, lab, cut)?, cut.count <= 12)
+    leaves_either(rt, armed(rt, alloc, lab, cut)?, cut.count <= 14)
 }
 
 #[test]
 fn each_cut_leaves_one_of_two_views(rt: HostRuntime) -> Result<(), Fail> {
-    for call in 1..25u32 {
+    for call in 1..29u32 {
         let cut = ArmedCut {
             unit: CutUnit::Call,
             count: call,
@@ -434,12 +437,12 @@ fn is_faulty_at<L: LabDisk + Drop>(
     lab: L,
     call: u64,
 ) -> Result<(), Fail> {
-    leaves_either(rt, made(rt, alloc, lab, 0)?, call <= 16)
+    leaves_either(rt, made(rt, alloc, lab, 0)?, call <= 18)
 }
 
 #[test]
 fn each_fault_leaves_one_of_two_views(rt: HostRuntime) -> Result<(), Fail> {
-    for call in 1..29u64 {
+    for call in 1..33u64 {
         let lab = MemoryLab::faulty(rt.alloc(), DISK_LEN, 11 + call)?;
         is_faulty_at(&rt, rt.alloc(), lab, call)?;
     }
@@ -456,6 +459,50 @@ fn a_cut_armed_in_an_open_cabinet(rt: HostRuntime) -> Result<(), Fail> {
     assert_eq!(rt; cabinet.cuts_armed(), 1);
     assert_eq!(rt; cabinet.submit(&bill(2)), Err(Stop::Off));
     assert_eq!(rt; cabinet.cuts_armed(), 0);
+    Ok(())
+}
+
+/// What is told of a page where the first page of copy a and the last one of copy b are altered.
+fn told(page: u8) -> PageState {
+    PageState {
+        a: page != 0,
+        b: page != 31,
+    }
+}
+
+/// A byte of the first page of copy a and one of the last page of copy b are altered in the file of an open cabinet. 33
+/// checks go over pages 0 to 31, and over page 0 again.
+#[test]
+fn checks_each_page_in_turn(rt: HostRuntime) -> Result<(), Fail> {
+    let path = "cabinet_checked";
+    let zeros = vec![in rt.alloc(); 0; DISK_LEN as usize]?;
+    fs::write(&rt, path, zeros.as_slice())?;
+    let parts = made(&rt, rt.alloc(), FileDisk::at(&rt, path), 0)?;
+    let mut cabinet = ready(&rt, parts, both(0), 1)?;
+    let mut bytes = fs::read(&rt, path)?;
+    assert!(rt; bytes.len() == DISK_LEN as usize);
+    bytes[1073] ^= 1;
+    bytes[2 * COPY_LEN - 1] ^= 1;
+    fs::write(&rt, path, bytes.as_slice())?;
+    for page in 0..33 {
+        assert_eq!(rt; cabinet.idle(), Ok(told(page % 32)), "{page}");
+    }
+    assert_eq!(rt; cabinet.core().count(), 1);
+    fs::remove_file(&rt, path)?;
+    Ok(())
+}
+
+/// Checks of an open cabinet whose disk fails in the second check, at its first read.
+#[test]
+fn stops_where_a_check_fails(rt: HostRuntime) -> Result<(), Fail> {
+    let zeros = vec![in rt.alloc(); 0; DISK_LEN as usize]?;
+    let disk = MemoryDisk::of(zeros, Some(11 + 18 + 3));
+    let mut cabinet = ready(&rt, made(&rt, rt.alloc(), disk, 0)?, both(0), 1)?;
+    assert_eq!(rt; cabinet.idle(), Ok(PageState { a: true, b: true }));
+    assert_eq!(rt; cabinet.idle(), Err(Stop::Off));
+    assert_eq!(rt; cabinet.idle(), Err(Stop::Stopped));
+    assert_eq!(rt; cabinet.submit(&bill(2)), Err(Stop::Stopped));
+    assert_eq!(rt; (cabinet.stops(), cabinet.core().count()), (1, 1));
     Ok(())
 }
 

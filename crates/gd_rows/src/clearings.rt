@@ -429,18 +429,18 @@ fn push_first(bytes: &mut Vec<u8>, line: &str) -> Result<(), Fail> {
 /// Calls of the disk from the first to the last of each part of the run, and how many lines of the report stand before
 /// `disk fault` where one of them fails. An alteration and a line under a lock make no call.
 const CALLS: &[(u64, u64, usize)] = &[
-    // The reading of both copies, which are lost, behind the 27 calls of the first making and its opening.
-    (28, 29, 5),
+    // The reading of both copies, which are lost, behind the 29 calls of the first making and its opening.
+    (30, 31, 5),
     // The making: two reads, a write that shuts gate b alone, a sync, and two writes with a sync each for either copy.
-    (30, 41, 8),
+    (32, 43, 8),
     // The first reading of both copies,
-    (42, 43, 9),
+    (44, 45, 9),
     // and their second reading with the start.
-    (44, 57, 10),
+    (46, 61, 10),
 ];
 
 /// Behind the last of these calls there is none.
-const BEHIND_LAST: u64 = 58;
+const BEHIND_LAST: u64 = 62;
 
 /// At a fault of the disk the report stands up to the failing call. The power is off then.
 #[test]

@@ -26,7 +26,7 @@ digests_more i k payload xs ys so_far is le =
 put_is : (a k : ℕ) (xs ys : List ℕ) → length ys ≡ k → put_mid a k xs ys ≡ take a xs ++ ys ++ drop (a + k) xs
 put_is a k xs ys is = put_mid-paste a k xs ys ys k refl refl (sym is) ∙ ap (λ (l : List ℕ). take a xs ++ l ++ drop (a + k) xs) (take_all k ys (omega (arith, is)))
 
-length_put : (a k : ℕ) (xs ys : List ℕ) → length ys ≡ k → a + k ≤ length xs → length (put_mid a k xs ys) ≡ length xs
+pub length_put : (a k : ℕ) (xs ys : List ℕ) → length ys ≡ k → a + k ≤ length xs → length (put_mid a k xs ys) ≡ length xs
 length_put a k xs ys is le = ap length (put_is a k xs ys is) ∙ omega (arith, is, le, length-append (take a xs ++ ys) (drop (a + k) xs), length-append (take a xs) ys, length-drop (a + k) xs, length-take a xs)
 
 -- the last write fills the buffer

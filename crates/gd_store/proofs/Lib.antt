@@ -1,9 +1,12 @@
 mod Boots
 mod Commit
 mod CopyMoments
+mod Fronts
 mod Images
 mod Openings
+mod PageMoments
 mod Pages
+mod PagesKept
 mod Parts
 mod RepairMoments
 mod Assembled

@@ -26,7 +26,7 @@ pub same_bytes : (xs ys : List ℕ) → xs ≡ ys → bytes_eq xs ys ≡ true
 same_bytes xs ys same = (bytes_eq-Decides xs ys).1 same
 
 -- the digest of page i among those of n pages
-digest_at : (n i : ℕ) (payload : List ℕ) → i < n → part (DIGEST_LEN * i) DIGEST_LEN (digests n payload) ≡ sha256 (page i payload)
+pub digest_at : (n i : ℕ) (payload : List ℕ) → i < n → part (DIGEST_LEN * i) DIGEST_LEN (digests n payload) ≡ sha256 (page i payload)
 unfolding digests
 digest_at zero i payload lt = absurd (omega arith)
 digest_at (suc n) i payload lt = elim (cases_eq i n) [

@@ -37,6 +37,10 @@ digests (suc n) payload = digests n payload ++ sha256 (page n payload)
 unfoldable pub head_of : Layout → ℕ → List ℕ → List ℕ
 head_of l sequence payload = header_start l ++ to_be_bytes w64 sequence ++ digests l.pages payload
 
+-- what stands between the gate and the pages
+unfoldable pub front_of : Layout → ℕ → List ℕ → List ℕ
+front_of l sequence payload = head_of l sequence payload ++ sha256 (head_of l sequence payload)
+
 -- what stands behind the gate
 unfoldable pub body_of : Layout → ℕ → List ℕ → List ℕ
 body_of l sequence payload = head_of l sequence payload ++ sha256 (head_of l sequence payload) ++ payload

@@ -1,5 +1,7 @@
 pub mod AtRest
 pub mod Booting
+pub mod Changes
+pub mod Checking
 pub mod Choice
 pub mod Copy
 pub mod Lending

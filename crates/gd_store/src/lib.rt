@@ -3,6 +3,7 @@
 #![tactic(auto)]
 
 mod booting;
+mod checking;
 mod copy;
 mod laws;
 mod making;
@@ -13,7 +14,7 @@ mod store;
 mod tests;
 
 pub use booting::{Booted, boot};
-pub use copy::{CopyState, Found, LAYOUT, Layout, MOST_SEQUENCE, Why};
+pub use copy::{CopyState, Found, LAYOUT, Layout, MOST_SEQUENCE, PageState, Why};
 pub use laws::altered_at_rest;
 pub use making::Made;
 pub use opening::Opened;

@@ -15,10 +15,11 @@ ghost use Rattle.gd_store.specs.OpenAnswer.{disk_in, outcome, OnReady, OnLost, I
 ghost use Rattle.gd_store.specs.Repair.{repair_needed, syncs_of_repair, other_side};
 
 use crate::booting::{Booted, boot};
-use crate::copy::sealing::seal_body;
+use crate::copy::sealing::{seal_body, write_digests};
 use crate::copy::writing::write_copy;
+use crate::store::DIGESTS_LEN;
 use crate::{CopyState, Found, LAYOUT, Layout, Room, Store};
-use gd_disk::{DISK_LEN, Disk, Off, PAGE_LEN, Side};
+use gd_disk::{DISK_LEN, Disk, Off, PAGE_COUNT, PAGE_LEN, Side};
 
 /// What the opening of a store answers.
 #[derive(Drop)]
@@ -70,15 +71,18 @@ impl<D: Disk> Store<D> {
                     &mut parts.a,
                     &mut parts.b,
                 ) {
-                    Ok(()) => Opened::Ready {
-                        store: Store {
+                    Ok(()) => {
+                        let mut kept = [0; DIGESTS_LEN];
+                        write_digests(&room.payload, &mut kept, PAGE_COUNT);
+                        let store = Store {
                             disk,
                             room,
                             sequence,
                             is_stopped: false,
-                        },
-                        found,
-                    },
+                            kept,
+                        };
+                        Opened::Ready { store, found }
+                    }
                     Err(Off) => Opened::Off { disk, room },
                 }
             }

@@ -2,31 +2,42 @@
 
 ghost use Rattle.std.specs.Prelude.{◌≡◌, true, false};
 ghost use Rattle.gd_disk.specs.Disk.{IsSynced};
-ghost use Rattle.gd_disk.specs.declared.lengths.TheConstants.{DISK_LEN};
+ghost use Rattle.gd_disk.specs.declared.lengths.TheConstants.{DISK_LEN, PAGE_COUNT};
 ghost use Rattle.gd_store.specs.declared.copy.layout.TheConstants.{LAYOUT};
-ghost use Rattle.gd_store.specs.Copy.{Holds};
+ghost use Rattle.gd_store.specs.Copy.{digests, Holds};
 
-use crate::copy::writing::write_both;
+use crate::copy::changing::write_both;
 use crate::{LAYOUT, MOST_SEQUENCE, Room};
-use gd_disk::{CutUnit, Disk, LabDisk, MOST_CUTS, MOST_TORN, Off, PAGE_COUNT, PAGE_LEN};
+use gd_disk::{
+    CutUnit, DIGEST_LEN, Disk, HEADER_LEN, LabDisk, MOST_CUTS, MOST_TORN, Off, PAGE_COUNT, PAGE_LEN,
+};
+
+/// Bytes in the digests of a payload.
+pub(crate) const DIGESTS_LEN: usize = DIGEST_LEN * PAGE_COUNT;
+
+/// Bytes in what stands between the gate and the pages of a copy.
+const FRONT_LEN: usize = HEADER_LEN + DIGESTS_LEN + DIGEST_LEN;
 
 /// A payload that both copies on a disk hold at one sequence, until a call to the disk fails. From then on nothing
-/// is committed.
+/// is committed. The digests of its pages are kept, one after another.
 #[derive(Drop)]
 pub struct Store<D: Disk> {
     pub(crate) disk: D,
     pub(crate) room: Room,
     pub(crate) sequence: u64,
     pub(crate) is_stopped: bool,
+    pub(crate) kept: [u8; DIGESTS_LEN],
     ghost size: { (D.state disk).size ≡ DISK_LEN },
     ghost synced: { is_stopped ≡ false → IsSynced (D.state disk) },
     ghost holds: { is_stopped ≡ false → Holds LAYOUT sequence room.payload.items (D.state disk).seen },
     ghost is_off: { is_stopped ≡ true → (D.state disk).is_on ≡ false },
+    ghost are_kept: { kept ≡ digests PAGE_COUNT room.payload.items },
 }
 
 impl<D: Disk> Store<D> {
     ghost use Rattle.std.specs.Prelude.{◌*◌, List, ℕ, Some, length, ◌⊎◌, ◌+◌, ◌<◌, ◌^◌, OnOk, OnErr, IsErr};
     ghost use Rattle.gd_disk.specs.declared.lengths.TheConstants.{PAGE_COUNT, PAGE_LEN};
+    ghost use Rattle.gd_store.specs.Changes.{PagesStand};
     ghost use Rattle.gd_store.specs.Copy.{HoldsBoth, boots};
     ghost use Rattle.gd_store.specs.Room.{room_payload};
     ghost use Rattle.gd_store.specs.Store.{store_disk, store_payload, store_sequence, store_stopped};
@@ -106,6 +117,9 @@ impl<D: Disk> Store<D> {
             → LeavesOnly (D.state (store_disk self.old)) (D.state (store_disk self.new))
             (IsCommitting LAYOUT (store_sequence self.old, store_payload self.old)
             (store_sequence self.old + 1, payload.now)) }
+        ensures pages { store_stopped self.old ≡ false
+            → LeavesOnly (D.state (store_disk self.old)) (D.state (store_disk self.new))
+            (PagesStand LAYOUT (store_payload self.old) payload.now) }
         ensures answer { Answers result (D.state (store_disk self.old)) (D.state (store_disk self.new)) }
         ensures fewer { OnErr result ((D.state (store_disk self.new)).syncs <
             (D.state (store_disk self.old)).syncs + 6) }
@@ -116,16 +130,19 @@ impl<D: Disk> Store<D> {
             self.disk.sync()?;
             return Err(Off);
         }
-        let body = &mut self.room.a[1..];
+        let mut front = [0; FRONT_LEN];
         match write_both(
             &mut self.disk,
             LAYOUT,
             self.sequence,
             &self.room.payload,
             payload,
-            body,
+            &self.kept,
+            &mut front,
         ) {
             Ok(()) => {
+                let digests = &front[HEADER_LEN..HEADER_LEN + DIGESTS_LEN];
+                self.kept.copy_from_slice(digests);
                 self.room.payload.copy_from_slice(payload);
                 self.sequence += 1;
                 Ok(())

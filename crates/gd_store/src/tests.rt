@@ -4,7 +4,7 @@ ghost use Rattle.gd_disk.specs.Disk.{IsSynced};
 ghost use Rattle.gd_store.specs.OpenAnswer.{IsOpenable};
 
 use crate::copy::sealing::seal_body;
-use crate::{Booted, CopyState, Found, LAYOUT, Made, Opened, Room, Store, Why, boot};
+use crate::{Booted, CopyState, Found, LAYOUT, Made, Opened, PageState, Room, Store, Why, boot};
 use gd_disk::{
     COPY_LEN, CutUnit, DISK_LEN, Disk, FileDisk, LabDisk, MemoryDisk, MemoryLab, PAGE_COUNT,
     PAGE_LEN,
@@ -299,8 +299,18 @@ fn found_after<L: LabDisk + Drop>(rt: &impl Abort, lab: L, room: Room) -> Result
     }
 }
 
-/// Whether a commit to sequence 2 succeeds under a cut, and what is found after it. A commit after it fails by one
-/// call.
+/// The payload at sequence 1 with two pages changed, the first and the last.
+fn changed(alloc: Global) -> Result<Vec<u8>, AllocError>
+    ensures { IfOk result (λ v. length v.items ≡ PAYLOAD_LEN) }
+{
+    let mut bytes = payload(alloc, 1)?;
+    bytes[0] ^= 1;
+    bytes[PAYLOAD_LEN - 1] ^= 1;
+    Ok(bytes)
+}
+
+/// Whether a commit to sequence 2 succeeds under a cut, where two pages have changed, and what is found after it. A
+/// commit after it fails by one call, and so does the check of a page.
 fn commit_under<L: LabDisk + Drop>(
     rt: &impl Abort,
     alloc: Global,
@@ -310,11 +320,12 @@ fn commit_under<L: LabDisk + Drop>(
     let (mut lab, room) = memory(rt, alloc, lab, cut)?;
     turned_on(rt, &mut lab)?;
     let (mut store, _found) = opened(rt, lab, room)?;
-    let is_done = commit(rt, &mut store, &payload(alloc, 2)?);
+    let is_done = commit(rt, &mut store, &changed(alloc)?);
     if store.is_stopped() {
         let before = store.stops();
         assert!(rt; !commit(rt, &mut store, &payload(alloc, 3)?));
-        assert!(rt; store.stops() == before.saturating_add(1));
+        assert!(rt; store.check_page(0).is_err());
+        assert!(rt; store.stops() == before.saturating_add(2));
     }
     let (lab, room) = store.close();
     Ok((is_done, found_after(rt, lab, room)?))
@@ -348,12 +359,22 @@ fn written(call: u32, torn: u8, old: CopyState, new: CopyState) -> CopyState {
     }
 }
 
-/// After a cut at a call of a commit, of which the first six write copy a.
+/// Of the calls that write a copy of which two pages have changed, the one of the six that it stands for: the front and
+/// the pages, calls 3 to 5, are written in place of a body.
+fn of_six(call: u32) -> u32 {
+    match call {
+        0..=2 => call,
+        3..=5 => 3,
+        _ => call.saturating_sub(2),
+    }
+}
+
+/// After a cut at a call of a commit, of which the first eight write copy a.
 fn left_by_commit(call: u32, torn: u8) -> Found {
     let (old, new) = (CopyState::Sound(1), CopyState::Sound(2));
     Found {
-        a: written(call, torn, old, new),
-        b: written(call.saturating_sub(6), torn, old, new),
+        a: written(of_six(call), torn, old, new),
+        b: written(of_six(call.saturating_sub(8)), torn, old, new),
     }
 }
 
@@ -394,21 +415,21 @@ fn by_syncs(sync: u32, torn: u8) -> Cut {
 #[test]
 fn a_cut_at_each_call_of_a_commit(rt: HostRuntime) -> Result<(), Fail> {
     for torn in 0..4 {
-        for call in 1..14 {
+        for call in 1..18 {
             let lab = MemoryLab::new(rt.alloc(), DISK_LEN)?;
             let (is_done, found) = commit_under(&rt, rt.alloc(), lab, by_calls(call, torn))?;
-            assert_eq!(rt; is_done, call == 13, "{call} {torn}");
+            assert_eq!(rt; is_done, call == 17, "{call} {torn}");
             assert_eq!(rt; found, left_by_commit(call, torn), "{call} {torn}");
         }
     }
     Ok(())
 }
 
-/// The syncs of a commit are each second call of it.
+/// The syncs of a commit follow the shutting of a gate, the pages and the opening of the gate.
 #[test]
 fn a_cut_at_each_sync_of_a_commit(rt: HostRuntime) -> Result<(), Fail> {
     for torn in 0..4 {
-        for (sync, call) in [(1, 2), (2, 4), (3, 6), (4, 8), (5, 10), (6, 12)] {
+        for (sync, call) in [(1, 2), (2, 6), (3, 8), (4, 10), (5, 14), (6, 16)] {
             let lab = MemoryLab::new(rt.alloc(), DISK_LEN)?;
             let (is_done, found) = commit_under(&rt, rt.alloc(), lab, by_syncs(sync, torn))?;
             assert!(rt; !is_done, "{sync} {torn}");
@@ -621,6 +642,37 @@ fn keeps_a_payload_in_a_file(rt: HostRuntime) -> Result<(), Fail> {
     let bytes = fs::read(&rt, path)?;
     assert!(rt; bytes.starts_with(&copy));
     assert!(rt; bytes.ends_with(&copy));
+    fs::remove_file(&rt, path)?;
+    Ok(())
+}
+
+/// What is told of two pages of an open store.
+fn told_of_pages<D: Disk>(store: &mut Store<D>) -> Result<(PageState, PageState), Fail> {
+    match (store.check_page(3), store.check_page(4)) {
+        (Ok(third), Ok(fourth)) => Ok((third, fourth)),
+        (_, _) => Err(Fail::new("off in a check")),
+    }
+}
+
+/// Bytes of page 3 of copy b and of page 4 of copy a are altered in the file of an open store.
+#[test]
+fn tells_an_altered_page(rt: HostRuntime) -> Result<(), Fail> {
+    let path = "store_checked";
+    fs::write(&rt, path, blank(rt.alloc())?.as_slice())?;
+    let (disk, room) = made(&rt, FileDisk::at(&rt, path), Room::new(rt.alloc())?)?;
+    let (mut store, _found) = opened(&rt, disk, room)?;
+    assert!(rt; commit(&rt, &mut store, &changed(rt.alloc())?));
+    let both_hold = PageState { a: true, b: true };
+    assert_eq!(rt; told_of_pages(&mut store)?, (both_hold, both_hold));
+    let mut bytes = fs::read(&rt, path)?;
+    assert!(rt; bytes.len() == DISK_LEN as usize);
+    bytes[COPY_LEN + 1073 + 3 * PAGE_LEN] ^= 1;
+    bytes[1073 + 4 * PAGE_LEN + 511] ^= 0x80;
+    fs::write(&rt, path, bytes.as_slice())?;
+    let only_a = PageState { a: true, b: false };
+    let only_b = PageState { a: false, b: true };
+    assert_eq!(rt; told_of_pages(&mut store)?, (only_a, only_b));
+    assert!(rt; !store.is_stopped());
     fs::remove_file(&rt, path)?;
     Ok(())
 }

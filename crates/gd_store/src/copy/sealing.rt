@@ -1,8 +1,9 @@
 //! The sealing of a copy.
 
-ghost use Rattle.std.specs.Prelude.{◌≡◌, ◌+◌, ◌*◌, ◌++◌, length};
+ghost use Rattle.std.specs.Prelude.{◌≡◌, ◌+◌, ◌*◌, ◌<◌, ◌++◌, ℕ, length, false, slice_index_or};
 ghost use Rattle.std.specs.Int.{w64, to_be_bytes};
-ghost use Rattle.gd_store.specs.Copy.{body_of, copy_len, header_start, digests};
+ghost use Rattle.sha2.specs.Sha256.{sha256};
+ghost use Rattle.gd_store.specs.Copy.{body_of, copy_len, front_of, header_start, digests, page, part};
 
 use crate::Layout;
 use gd_disk::{DIGEST_LEN, HEADER_LEN, PAGE_LEN};
@@ -33,7 +34,7 @@ fn header(layout: Layout, sequence: u64) -> [u8; HEADER_LEN]
 }
 
 /// Writes the digest of each page.
-fn write_digests(payload: &[u8], into: &mut [u8], pages: usize)
+pub(crate) fn write_digests(payload: &[u8], into: &mut [u8], pages: usize)
     requires payload { length payload.now ≡ PAGE_LEN * pages }
     requires room { length into.old ≡ DIGEST_LEN * pages }
     ensures { into.new ≡ digests pages payload.now }
@@ -57,4 +58,60 @@ pub(crate) fn seal_body(layout: Layout, sequence: u64, payload: &[u8], body: &mu
     let seal = Sha256::digest(&body[..head]);
     body[head..head + DIGEST_LEN].copy_from_slice(&seal);
     body[head + DIGEST_LEN..].copy_from_slice(payload);
+}
+
+/// Writes the digest of a page: the kept one where the page hasn't changed.
+fn renew_digest(kept: &[u8], is_changed: bool, page: &[u8], into: &mut [u8])
+    requires kept { length kept.now ≡ DIGEST_LEN }
+    requires room { length into.old ≡ DIGEST_LEN }
+    requires same { is_changed ≡ false → kept.now ≡ sha256 page.now }
+    ensures { into.new ≡ sha256 page.now }
+{
+    if is_changed {
+        into.copy_from_slice(&Sha256::digest(page));
+    } else {
+        into.copy_from_slice(kept);
+    }
+}
+
+/// Writes the digest of each page, of which those that have changed are computed.
+fn renew_digests(kept: &[u8], changed: &[bool], payload: &[u8], into: &mut [u8])
+    requires kept { length kept.now ≡ DIGEST_LEN * length changed.now }
+    requires payload { length payload.now ≡ PAGE_LEN * length changed.now }
+    requires room { length into.old ≡ DIGEST_LEN * length changed.now }
+    requires same { (i : ℕ) → i < length changed.now → slice_index_or changed.now i false ≡ false
+        → part (DIGEST_LEN * i) DIGEST_LEN kept.now ≡ sha256 (page i payload.now) }
+    ensures { into.new ≡ digests (length changed.now) payload.now }
+{
+    for i in 0..changed.len() {
+        let from = DIGEST_LEN * i;
+        let page = &payload[PAGE_LEN * i..PAGE_LEN * i + PAGE_LEN];
+        let digest = &mut into[from..from + DIGEST_LEN];
+        renew_digest(&kept[from..from + DIGEST_LEN], changed[i], page, digest);
+    }
+}
+
+/// Writes what stands between the gate and the pages of a copy, where only some pages have changed since one of these
+/// digests.
+pub(crate) fn seal_front(
+    layout: Layout,
+    sequence: u64,
+    kept: &[u8],
+    changed: &[bool],
+    payload: &[u8],
+    front: &mut [u8],
+)
+    requires kept { length kept.now ≡ DIGEST_LEN * length changed.now }
+    requires changed { length changed.now ≡ layout.pages }
+    requires payload { length payload.now ≡ PAGE_LEN * length changed.now }
+    requires front { length front.old ≡ HEADER_LEN + DIGEST_LEN * layout.pages + DIGEST_LEN }
+    requires same { (i : ℕ) → i < length changed.now → slice_index_or changed.now i false ≡ false
+        → part (DIGEST_LEN * i) DIGEST_LEN kept.now ≡ sha256 (page i payload.now) }
+    ensures { front.new ≡ front_of layout sequence payload.now }
+{
+    let head = HEADER_LEN + DIGEST_LEN * layout.pages as usize;
+    front[..HEADER_LEN].copy_from_slice(&header(layout, sequence));
+    renew_digests(kept, changed, payload, &mut front[HEADER_LEN..head]);
+    let seal = Sha256::digest(&front[..head]);
+    front[head..].copy_from_slice(&seal);
 }

@@ -27,3 +27,10 @@ pub struct Found {
     pub a: CopyState,
     pub b: CopyState,
 }
+
+/// Of one page: for each copy, whether the page has its digest.
+#[derive(Clone, Copy, PartialEq, Eq, Debug, Drop)]
+pub struct PageState {
+    pub a: bool,
+    pub b: bool,
+}

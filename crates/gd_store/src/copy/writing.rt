@@ -1,19 +1,16 @@
-//! Writes of one copy and of both to a disk, each kept by a sync of its own.
+//! Writes of one whole copy to a disk, each kept by a sync of its own.
 
-ghost use Rattle.std.specs.Prelude.{◌≡◌, ◌≤◌, ◌+◌, ◌<◌, ◌^◌, ◌∷◌, length, OnOk, OnErr, true, if◌then◌else◌, slice_index, ◌⊎◌, ◌*◌, IsErr, false, Some};
-ghost use Rattle.gd_disk.specs.Disk.{IfTold, seen_with_bytes, Torn, IsSynced, Answers, Unchanged, next_count};
+ghost use Rattle.std.specs.Prelude.{◌≡◌, ◌≤◌, ◌+◌, ◌<◌, ◌^◌, ◌∷◌, length, OnOk, OnErr, true, slice_index};
+ghost use Rattle.gd_disk.specs.Disk.{IfTold, seen_with_bytes, Torn, IsSynced, Answers};
 ghost use Rattle.gd_disk.specs.CutRuns.{RunOf};
 ghost use Rattle.gd_disk.specs.Runs.{LeavesOnly};
-ghost use Rattle.gd_store.specs.Writing.{seen_shut, IsShutting, IsShut, IsOverOpen, IsWriting, From, IsCommitting};
-ghost use Rattle.gd_store.specs.Copy.{HoldsBoth, LiesWithin, boots, copy_len};
+ghost use Rattle.gd_store.specs.Writing.{seen_shut, IsShutting, IsShut, IsOverOpen, IsWriting, From};
 
 use crate::copy::layout::OPEN;
-use crate::copy::sealing::seal_body;
-use crate::{Layout, MOST_SEQUENCE};
-use gd_disk::{Disk, Off, PAGE_LEN};
+use gd_disk::{Disk, Off};
 
 /// Writes, and keeps it by a sync.
-fn write_synced<D: Disk>(disk: &mut D, at: u64, bytes: &[u8]) -> Result<(), Off>
+pub(crate) fn write_synced<D: Disk>(disk: &mut D, at: u64, bytes: &[u8]) -> Result<(), Off>
     requires { at + length bytes.now ≤ (D.state disk.old).size }
     ensures seen { OnOk result ((D.state disk.new).seen ≡ seen_with_bytes at bytes.now (D.state disk.old).seen) }
     ensures synced { OnOk result (IsSynced (D.state disk.new)) }
@@ -31,7 +28,7 @@ fn write_synced<D: Disk>(disk: &mut D, at: u64, bytes: &[u8]) -> Result<(), Off>
 const SHUT: u8 = 0;
 
 /// Shuts a gate that is open. The sync is made all the same.
-fn shut<D: Disk>(disk: &mut D, at: u64, gate: u8) -> Result<(), Off>
+pub(crate) fn shut<D: Disk>(disk: &mut D, at: u64, gate: u8) -> Result<(), Off>
     requires within { at + 1 ≤ (D.state disk.old).size }
     requires synced { IsSynced (D.state disk.old) }
     requires gate { IfTold (D.state disk.old).seen (λ image. slice_index image at ≡ gate) }
@@ -109,36 +106,4 @@ pub(crate) fn write_copy<D: Disk>(disk: &mut D, at: u64, gate: u8, body: &[u8]) 
 {
     shut(disk, at, gate)?;
     write_shut(disk, at, body)
-}
-
-/// Writes the next payload over both copies of the old one.
-pub(crate) fn write_both<D: Disk>(
-    disk: &mut D,
-    layout: Layout,
-    sequence: u64,
-    kept: &[u8],
-    payload: &[u8],
-    body: &mut [u8],
-) -> Result<(), Off>
-    requires within { LiesWithin layout (D.state disk.old).size }
-    requires kept { length kept.now ≡ PAGE_LEN * layout.pages }
-    requires length { length payload.now ≡ PAGE_LEN * layout.pages }
-    requires body { length body.old + 1 ≡ copy_len layout.pages }
-    requires sequence { sequence < MOST_SEQUENCE }
-    requires synced { IsSynced (D.state disk.old) }
-    requires holds { IfTold (D.state disk.old).seen (HoldsBoth layout sequence kept.now) }
-    ensures synced { OnOk result (IsSynced (D.state disk.new)) }
-    ensures holds { OnOk result (IfTold (D.state disk.new).seen (HoldsBoth layout (sequence + 1) payload.now)) }
-    ensures any_moment { LeavesOnly (D.state disk.old) (D.state disk.new)
-        (λ c. (boots layout c ≡ Some (sequence, kept.now)) ⊎ (boots layout c ≡ Some (sequence + 1, payload.now))) }
-    ensures order { LeavesOnly (D.state disk.old)
-        (D.state disk.new) (IsCommitting layout (sequence, kept.now) (sequence + 1, payload.now)) }
-    ensures answer { Answers result (D.state disk.old) (D.state disk.new) }
-    ensures fewer { OnErr result ((D.state disk.new).syncs < (D.state disk.old).syncs + 6) }
-    ensures run { RunOf 6 result (D.state disk.old) (D.state disk.new) }
-    ensures reads { (D.state disk.new).reads ≡ (D.state disk.old).reads }
-{
-    seal_body(layout, sequence + 1, payload, body);
-    write_copy(disk, layout.a, OPEN, body)?;
-    write_copy(disk, layout.b, OPEN, body)
 }
