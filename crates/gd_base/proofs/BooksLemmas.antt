@@ -2,3 +2,4 @@
 pub mod Books
 pub mod LegalBooks
 pub mod Indexes
+pub mod Enabled

@@ -1,6 +1,6 @@
 -- For callers: what tests tell, and which tests hold.
 use Rattle.std.specs.Prelude.{◌≡◌, ℕ, ◌<◌, ◌≤◌, ◌==◌, nat_le, nat_lt, Bool, true, false, ◌&&◌, List, [], ◌∷◌, refl}
-use Rattle.std.proofs.Common.{arith}
+use Rattle.std.proofs.Common.{ap, sym, ◌∙◌, arith}
 use Rattle.std.proofs.lemmas.Bool.Decides.{nat_tests}
 use Rattle.gd_base.specs.Payloads.ViewRules.{all_true}
 use Rattle.gd_base.specs.Judging.Product.{both_hold}
@@ -9,6 +9,12 @@ pub both : (a b : Bool) → a && b ≡ true → (a ≡ true) × (b ≡ true)
 both true true h = (refl, refl)
 both true false h = absurd (cc h)
 both false b h = absurd (cc h)
+
+pub second_of : (a b : Bool) → a ≡ true → b ≡ (a && b)
+second_of a b h = ap (λ (x : Bool). x && b) (sym h)
+
+pub not_first : (a b : Bool) → a ≡ false → a ≡ (a && b)
+not_first a b h = h ∙ ap (λ (x : Bool). x && b) (sym h)
 
 abbrev pub AllTrue : List Bool → Type 0
 AllTrue [] = Unit {0}
@@ -38,3 +44,6 @@ is_within m n h = grind (arith, nat_tests, h)
 
 pub is_below : (m n : ℕ) → m < n → nat_lt m n ≡ true
 is_below m n h = grind (arith, nat_tests, h)
+
+pub is_less : (m n : ℕ) → nat_lt m n ≡ true → m < n
+is_less m n h = grind (arith, nat_tests, h)

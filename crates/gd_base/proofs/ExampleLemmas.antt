@@ -4,3 +4,5 @@ pub mod Histories
 pub mod Texts
 pub mod Payloads
 pub mod FullHistory
+pub mod Loading
+pub mod Premises

@@ -1,10 +1,12 @@
 pub mod BoolTests
+pub mod ViewFacts
 pub mod AnswerLemmas
 pub mod BooksLemmas
 pub mod HistoryLemmas
 pub mod StageLemmas
 pub mod PayloadLemmas
-mod PreservedLemmas
+pub mod Effects
+pub mod PreservedLemmas
 pub mod SoFarLemmas
 mod OutsideLemmas
 mod TextLemmas

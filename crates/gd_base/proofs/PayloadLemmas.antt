@@ -7,3 +7,16 @@ pub mod Same
 pub mod Itself
 pub mod EmptyView
 pub mod Views
+pub mod Lengths
+pub mod RecordsBack
+pub mod ListsBack
+pub mod ListsHad
+pub mod Parts
+pub mod ListsOfViews
+pub mod OneOfParts
+pub mod Behind
+pub mod FieldsBack
+pub mod HeadBack
+pub mod OpenBack
+pub mod ViewBack
+pub mod Telling

@@ -6,4 +6,11 @@ pub mod Order
 pub mod Counts
 pub mod Handpay
 pub mod OnlyOneOpen
+pub mod PlayRules
+pub mod Bounds
+pub mod Moved
+pub mod Plays
+pub mod AfterPlays
+pub mod MostAdded
+pub mod Notes
 pub mod Preserved

@@ -2,3 +2,4 @@
 pub mod Stages
 pub mod Turns
 pub mod FirstChoice
+pub mod MostWin

@@ -6,3 +6,5 @@ pub mod WholeHistory
 pub mod OneView
 pub mod TellsViews
 pub mod Preserved
+pub mod ListsIn
+pub mod Spelling

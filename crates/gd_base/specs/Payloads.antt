@@ -5,3 +5,8 @@ pub mod Spelled
 pub mod ViewRules
 pub mod LoadedView
 pub mod ViewCode
+pub mod Lists
+pub mod Recorded
+pub mod ListsIn
+pub mod Spelling
+pub mod Loading

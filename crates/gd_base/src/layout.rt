@@ -50,6 +50,9 @@ pub const KEPT_LEN: usize = 12;
 /// Where the four numbers of records stand.
 pub const LISTS_AT: usize = KEPT_AT + KEPT_LEN * 9;
 
+/// How many places of the head are the lists', from `LISTS_AT` on: four numbers of two bytes, and zeros.
+pub const LISTS_LEN: usize = 28;
+
 // ---- the open play
 
 /// Where the open play stands, behind the head.
@@ -107,7 +110,7 @@ const _: () = prove!(DOORS_AT == 176 && TILTS_AT == 177 && HANDPAY_AT == 178);
 
 const _: () = prove!(ORDER_AT == 188 && ORDERS_AT == 192 && ORDER_AMOUNT_AT == 200);
 
-const _: () = prove!(KEPT_AT == 208 && KEPT_LEN == 12 && LISTS_AT == 316);
+const _: () = prove!(KEPT_AT == 208 && KEPT_LEN == 12 && LISTS_AT == 316 && LISTS_LEN == 28);
 
 const _: () = prove!(OPEN_AT == 512 && PLAYS_AT == 4096 && EVENTS_AT == 5956);
 

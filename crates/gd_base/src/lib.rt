@@ -55,6 +55,7 @@ pub use layout::HEAD_LEN;
 pub use layout::KEPT_AT;
 pub use layout::KEPT_LEN;
 pub use layout::LISTS_AT;
+pub use layout::LISTS_LEN;
 pub use layout::OPEN_AT;
 pub use layout::OPEN_PLAY_LEN;
 pub use layout::ORDER_AMOUNT_AT;

@@ -2,8 +2,3 @@ pub mod PutPieces
 pub mod WordWidths
 pub mod PlayImage
 pub mod RowSteps
-pub mod Parts
-pub mod ReadBack
-pub mod Loading
-pub mod OfViews
-pub mod WholePayload

@@ -1,14 +1,12 @@
 -- Pieces that are put in a row.
-use Rattle.std.proofs.Common.{◌≡◌, ◌∙◌, ap, sym, refl, ℕ, ◌+◌, ◌*◌, ◌<◌, ◌≤◌, List, [], ◌∷◌, ◌++◌, length, take, drop, append-nil, get_or, arith, append_assoc, add-one, length-append}
+use Rattle.std.proofs.Common.{◌≡◌, ◌∙◌, ap, sym, ℕ, ◌+◌, ◌*◌, ◌<◌, ◌≤◌, List, [], ◌∷◌, ◌++◌, length, take, drop, append-nil, get_or, arith, append_assoc, add-one, length-append}
 use Rattle.std.specs.List.{flat_map}
-use Rattle.std.proofs.Math.Nat.{mul-suc}
 use Rattle.std.proofs.Math.Seq.{take-suc, take-append_seam}
 use Rattle.std.proofs.lemmas.Grind.{flat_map-append}
 use Rattle.std.proofs.lemmas.List.{length-take-le}
-use Rattle.std.proofs.lemmas.List.Concat.{flat_map-cons}
 use Rattle.std.proofs.lemmas.List.Folds.{length-flat_map-take}
 use Rattle.std.proofs.lemmas.Slice.{drop-append-drop}
-use Rattle.gd_base.specs.Payloads.Bytes.{eight}
+use Rattle.gd_base.proofs.PayloadLemmas.Lengths.{row_length}
 use Rattle.gd_recall.specs.Pieces.{put_at}
 
 -- a second piece right behind a first one
@@ -28,12 +26,6 @@ put_behind place n xs ys bytes e fits =
 
 -- ================ pieces of one length
 
-pub row_length : {A : Type 0} (f : A → List ℕ) (size : ℕ) → ((x : A) → length (f x) ≡ size) → (xs : List A) → length (flat_map f xs) ≡ size * length xs
-row_length f size long [] = omega arith
-row_length f size long (x ∷ xs) =
-    let one : length (flat_map f (x ∷ xs)) ≡ length (f x) + length (flat_map f xs) = ap length (flat_map-cons f x xs) ∙ length-append (f x) (flat_map f xs) in
-    omega (arith, one, long x, row_length f size long xs, mul-suc size (length xs))
-
 -- one piece more
 pub row_more : {A : Type 0} (f : A → List ℕ) (size : ℕ) → ((x : A) → length (f x) ≡ size) → (place i : ℕ) (xs : List A) (d : A) (bytes : List ℕ) → i < length xs
     → place + size * length xs ≤ length bytes
@@ -46,6 +38,3 @@ row_more {A} f size long place i xs d bytes lt fits =
     let one : take (i + 1) xs ≡ take i xs ++ x ∷ [] = rw add-one (take-suc xs i d lt) in
     let more : flat_map f (take (i + 1) xs) ≡ before ++ f x = ap (flat_map f) one ∙ flat_map-append f (take i xs) (x ∷ []) ∙ (λ j. before ++ append-nil (f x) j) in
     put_behind place (size * i) before (f x) bytes few room ∙ ap (λ (u : List ℕ). put_at place u bytes) (sym more)
-
-pub eight_long : (n : ℕ) → length (eight n) ≡ 8
-eight_long n = refl

@@ -7,7 +7,7 @@ use Rattle.std.proofs.lemmas.List.Concat.{flat_map-cons}
 use Rattle.std.proofs.lemmas.Slice.{take-put_mid}
 use borrow.Rule.Slice.PartMut.{put_mid}
 use Rattle.gd_base.proofs.BoolTests.{both}
-use Rattle.gd_recall.specs.InPayload.{records_in}
+use Rattle.gd_base.specs.Payloads.Reading.{records_in}
 
 -- ================ written
 

@@ -2,8 +2,6 @@
 //! the records.
 #![tactic(auto)]
 
-pub mod laws;
-mod layout;
 mod list_record;
 mod numbers;
 mod play_record;
@@ -13,6 +11,5 @@ mod short_records;
 #[cfg(test)]
 mod tests;
 
-pub use layout::LISTS_LEN;
 pub use play_record::{is_recorded_play, play_image, read_play};
 pub use recall::Recall;

@@ -2,14 +2,13 @@
 
 ghost use Rattle.std.specs.Prelude.{◌≡◌, ◌≤◌, ◌+◌, ◌*◌, length, flat_map};
 ghost use Rattle.gd_base.specs.Payloads.Bytes.{two, four, eight};
-ghost use Rattle.gd_base.specs.Payloads.Reading.{number_at, short_at, sixteen_at};
-ghost use Rattle.gd_recall.specs.InPayload.{two_at};
+ghost use Rattle.gd_base.specs.Payloads.Reading.{number_at, short_at, sixteen_at, two_at};
 ghost use Rattle.gd_recall.specs.Pieces.{put_at};
 
 use byteorder::{BigEndian, ByteOrder};
 
 /// The number in the two bytes at a place.
-#[tactic(auto, unfolding(crate::specs::InPayload::two_at))]
+#[tactic(auto, unfolding(gd_base::specs::Payloads::Reading::two_at))]
 pub(crate) fn two_bytes_at(bytes: &[u8], place: usize) -> u16
     requires { place + 2 ≤ length bytes.now }
     ensures { result ≡ two_at place bytes.now }

@@ -5,8 +5,9 @@ ghost use Rattle.std.specs.List.{list_all};
 ghost use Rattle.gd_base.specs.Histories.Numbers.{game_number as number_of_game};
 ghost use Rattle.gd_base.specs.Payloads.Bytes.{choice_code, play_bytes};
 ghost use Rattle.gd_base.specs.Payloads.Reading.{game_of, choice_of, play_read};
+ghost use Rattle.gd_base.specs.Payloads.Recorded.{is_recorded_play as is_recorded};
 ghost use Rattle.gd_base.specs.Payloads.ViewRules.{is_choice_value, all_true};
-ghost use Rattle.gd_recall.specs.Recorded.{is_recorded_play as is_recorded, play_widths, number_widths};
+ghost use Rattle.gd_recall.specs.PlayWidths.{play_widths, number_widths};
 
 use crate::list_record::ListRecord;
 use crate::numbers::{

@@ -3,18 +3,18 @@
 ghost use Rattle.std.specs.Prelude.{◌≡◌, ◌≤◌, ◌+◌, ◌∷◌, ◌==◌, ◌&&◌, min, take, length, slice_get, Some, is_some, unwrap_or, IfOk, IsTrue};
 ghost use Rattle.std.specs.List.{list_all, list_any};
 ghost use Rattle.gd_base.specs.Judging.Product.{same_numbers};
-ghost use Rattle.gd_recall.specs.InPayload.{lists_in, lists_read, numbers_of, outside, stand_in, two_at, StandIn};
-ghost use Rattle.gd_recall.specs.Lists.{no_lists};
-ghost use Rattle.gd_recall.specs.Recorded.{are_recorded};
+ghost use Rattle.gd_base.specs.Payloads.Lists.{no_lists};
+ghost use Rattle.gd_base.specs.Payloads.ListsIn.{lists_in, lists_read, numbers_of, outside, stand_in, StandIn};
+ghost use Rattle.gd_base.specs.Payloads.Reading.{two_at};
+ghost use Rattle.gd_base.specs.Payloads.Recorded.{are_recorded};
 
-use crate::layout::LISTS_LEN;
 use crate::numbers::{put_two_bytes, two_bytes_at};
 use crate::rows::{are_listed, read_row, write_row};
 use circular_buffer::HeapCircularBuffer;
 use gd_base::{
     BILLS_AT, BILLS_KEPT, BILLS_LEN, BillRecord, EVENTS_AT, EVENTS_KEPT, EVENTS_LEN, EventRecord,
-    LISTS_AT, PAYLOAD_LEN, PLAYS_AT, PLAYS_KEPT, PLAYS_LEN, PlayRecord, VOUCHERS_AT, VOUCHERS_KEPT,
-    VoucherRecord,
+    LISTS_AT, LISTS_LEN, PAYLOAD_LEN, PLAYS_AT, PLAYS_KEPT, PLAYS_LEN, PlayRecord, VOUCHERS_AT,
+    VOUCHERS_KEPT, VoucherRecord,
 };
 use std::alloc::{AllocError, Global};
 use std::marker::Model;
@@ -54,7 +54,7 @@ pub struct Recall {
 impl Model for Recall {
     ghost use Rattle.std.specs.Prelude.{◌≡◌};
     ghost use Rattle.gd_base.specs.declared.records.TheConstants.{PLAYS_KEPT, EVENTS_KEPT, BILLS_KEPT, VOUCHERS_KEPT};
-    ghost use Rattle.gd_recall.specs.Lists.{Recalled};
+    ghost use Rattle.gd_recall.specs.Recalled.{Recalled};
 
     ghost Value = { Recalled };
 

@@ -3,9 +3,10 @@
 ghost use Rattle.std.specs.Prelude.{◌≡◌, ◌≤◌, ◌*◌, ◌^◌, IsTrue, length, map};
 ghost use Rattle.std.specs.List.{list_all};
 ghost use Rattle.circular_buffer.specs.Buffer.{buffer};
+ghost use Rattle.gd_base.specs.Payloads.ListsIn.{row_of};
+ghost use Rattle.gd_base.specs.Payloads.Reading.{records_in};
+ghost use Rattle.gd_base.specs.Payloads.Recorded.{are_listed as are_listed_by};
 ghost use Rattle.gd_base.specs.Payloads.ViewRules.{fall_from};
-ghost use Rattle.gd_recall.specs.InPayload.{row_of, records_in};
-ghost use Rattle.gd_recall.specs.Recorded.{are_listed as are_listed_by};
 
 use crate::list_record::ListRecord;
 use circular_buffer::HeapCircularBuffer;

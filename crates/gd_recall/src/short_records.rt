@@ -2,9 +2,9 @@
 
 ghost use Rattle.std.specs.Prelude.{◌≡◌};
 ghost use Rattle.gd_base.specs.Payloads.Bytes.{event_bytes, bill_bytes, voucher_bytes};
+ghost use Rattle.gd_base.specs.Payloads.Reading.{event_read, bill_read, voucher_read};
+ghost use Rattle.gd_base.specs.Payloads.Recorded.{is_recorded_event};
 ghost use Rattle.gd_base.specs.Payloads.ViewRules.{is_bill_record, is_voucher};
-ghost use Rattle.gd_recall.specs.InPayload.{event_read, bill_read, voucher_read};
-ghost use Rattle.gd_recall.specs.Recorded.{is_recorded_event};
 
 use crate::list_record::ListRecord;
 use crate::numbers::{eight_bytes_at, four_bytes_at, put_eight_bytes, put_four_bytes};

@@ -52,10 +52,10 @@ paid n (ByPrinter amount) h none = omega (arith, none)
 paid n (ByHand amount) h none = omega arith
 
 -- what a confirmed handpay adds to a meter
-abbrev confirmed_to : Option Handpay → Meter → ℕ
+abbrev pub confirmed_to : Option Handpay → Meter → ℕ
 confirmed_to h m = sum_by (share m) (handpay_addition h)
 
-abbrev Confirmed : Option Handpay → Type 0
+abbrev pub Confirmed : Option Handpay → Type 0
 Confirmed h =
     (confirmed_to h Meter.Wagered + confirmed_to h Meter.VoucherOut + confirmed_to h Meter.CoinOut + confirmed_to h Meter.HandWin + confirmed_to h Meter.HandCancel ≡ handpay_amount h)
     × (confirmed_to h Meter.BillIn + confirmed_to h Meter.CoinIn + confirmed_to h Meter.VoucherIn ≡ 0)
@@ -64,7 +64,7 @@ confirmed_kind : (is_win : Bool) (amount : ℕ) → Confirmed (Some (record { wi
 confirmed_kind true amount = (omega arith, refl)
 confirmed_kind false amount = (omega arith, refl)
 
-confirmed : (h : Option Handpay) → Confirmed h
+pub confirmed : (h : Option Handpay) → Confirmed h
 confirmed None = (refl, refl)
 confirmed (Some h) = confirmed_kind h.win h.amount
 
@@ -135,10 +135,10 @@ pub plain : (o : Origin) (past : List Entry) (win : ℕ) (event : Event) (m : Me
     → sum_by (share m) (additions o past win event) ≡ amount o past event m
 plain o past win event m p q = omega (arith, sum_by-append (share m) (event_additions o past event) (win_additions win), not_won m win p q)
 
-to_won : (o : Origin) (past : List Entry) (win : ℕ) (event : Event) → sum_by (share Meter.Won) (additions o past win event) ≡ amount o past event Meter.Won + win
+pub to_won : (o : Origin) (past : List Entry) (win : ℕ) (event : Event) → sum_by (share Meter.Won) (additions o past win event) ≡ amount o past event Meter.Won + win
 to_won o past win event = omega (arith, sum_by-append (share Meter.Won) (event_additions o past event) (win_additions win), won win)
 
-none_won : (o : Origin) (past : List Entry) (event : Event) → amount o past event Meter.Won ≡ 0
+pub none_won : (o : Origin) (past : List Entry) (event : Event) → amount o past event Meter.Won ≡ 0
 none_won o past Event.HandpayDone = of_handpay (open_handpay o past)
   where
     of_kind : (is_win : Bool) (amount : ℕ) → confirmed_to (Some (record { win = is_win; amount = amount })) Meter.Won ≡ 0

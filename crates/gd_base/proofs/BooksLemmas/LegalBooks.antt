@@ -179,14 +179,14 @@ coins_by setup b n order _ coins = coins
 abbrev entry : ℕ → Event → Option (ℕ × List ℕ) → Reply → Entry
 entry number event draw reply = record { number = number; event = event; draw = draw; reply = reply }
 
-coins_more : (o : Origin) (past : List Entry) (number : ℕ) (event : Event) (draw : Option (ℕ × List ℕ)) (reply : Reply)
+pub coins_more : (o : Origin) (past : List Entry) (number : ℕ) (event : Event) (draw : Option (ℕ × List ℕ)) (reply : Reply)
     → AreCoins o.setup.coin (open_order o past) → AreCoins o.setup.coin (open_order o (entry number event draw reply ∷ past))
 coins_more o past number event draw Reply.Taken coins = coins_by o.setup (balance o past) (orders o past) (open_order o past) event coins
 coins_more o past number event draw (Reply.Refused why) coins = coins
 
 -- ================ a whole history
 
-Balances-more : (o : Origin) (past : List Entry) (number : ℕ) (event : Event) (draw : Option (ℕ × List ℕ)) (reply : Reply)
+pub Balances-more : (o : Origin) (past : List Entry) (number : ℕ) (event : Event) (draw : Option (ℕ × List ℕ)) (reply : Reply)
     → AreCoins o.setup.coin (open_order o past) → reply ≡ rule o.setup (view_after o past) event
     → Balances o past → Balances o (entry number event draw reply ∷ past)
 Balances-more o past number event draw Reply.Taken coins h before = Balances-taken o number event draw past (fits o number event draw past coins (sym h)) before

@@ -1,17 +1,15 @@
 -- For callers: the most that a play of the reels wins before any gamble.
 use Rattle.std.proofs.Common.{◌≡◌, ◌≤◌, ℕ, zero, suc, ◌*◌, ◌-◌, Bool, true, false, List, [], ◌∷◌, nat_le, get_or, slice_index, if◌then◌else◌, arith, Option, Some, None}
 use Rattle.gd_base.specs.declared.game.Game.{Game}
-use Rattle.gd_base.specs.declared.play.Stage.{Stage}
-use Rattle.gd_base.specs.declared.play.StageOpen.{StageOpen}
 use Rattle.gd_base.specs.declared.setup.Setup.{Setup}
 use Rattle.gd_base.specs.declared.tables.TheConstants.{LINES, SYMBOLS}
 use Rattle.gd_base.specs.Games.Chance.{greatest, pay_of_run, letters_on, pays_on, run_length, line_pay, line_wins, prize, window}
 use Rattle.gd_base.specs.Histories.Credit.{wager}
 use Rattle.gd_base.specs.Setups.SetupRules.{are_small, are_pays}
-use Rattle.gd_base.specs.Games.Stage.{has_pick, lines_win, base_win, stage_with, stage}
+use Rattle.gd_base.specs.Games.Stage.{has_pick, lines_win, base_win}
 use Rattle.gd_base.proofs.BoolTests.{at_most, both}
 
-small_at : (xs : List ℕ) (i : ℕ) → are_small xs ≡ true → slice_index xs i ≤ 5000
+pub small_at : (xs : List ℕ) (i : ℕ) → are_small xs ≡ true → slice_index xs i ≤ 5000
 small_at [] i h = omega arith
 small_at (x ∷ xs) zero h = at_most x 5000 (both (nat_le x 5000) (are_small xs) h).0
 small_at (x ∷ xs) (suc i) h = small_at xs i (both (nat_le x 5000) (are_small xs) h).1
@@ -40,10 +38,10 @@ lines_small setup window (suc n) = omega (arith, lines_small setup window n, lin
 
 -- ================ a play
 
-denom_small : (setup : Setup) → setup.denom ≤ 100
+pub denom_small : (setup : Setup) → setup.denom ≤ 100
 denom_small setup = at_most setup.denom 100 (both (nat_le 1 setup.denom) (nat_le setup.denom 100) setup.has_denom).1
 
-product_small : (a b m n : ℕ) → a ≤ m → b ≤ n → a * b ≤ m * n
+pub product_small : (a b m n : ℕ) → a ≤ m → b ≤ n → a * b ≤ m * n
 product_small a b m n p q = grind (arith, p, q)
 
 pub wager_small : (setup : Setup) (bet : ℕ) → bet ≤ 9 → wager setup bet ≤ 900
@@ -61,7 +59,7 @@ prize_small setup words door bet le =
     let all : prize setup words door * bet ≤ 45000 = product_small (prize setup words door) bet 5000 9 one le in
     product_small (prize setup words door * bet) setup.denom 45000 100 all (denom_small setup)
 
-abbrev AtMost : Option ℕ → Type 0
+abbrev pub AtMost : Option ℕ → Type 0
 AtMost None = Unit {0}
 AtMost (Some n) = n ≤ 9000000
 
@@ -69,20 +67,6 @@ base_if : (is_open : Bool) (n : ℕ) → n ≤ 9000000 → AtMost (if is_open th
 base_if true n le = tt
 base_if false n le = le
 
-base_small : (setup : Setup) (bet : ℕ) (words : List ℕ) (choice : Option ℕ) → bet ≤ 9 → AtMost (base_win setup Game.Reels bet words choice)
+pub base_small : (setup : Setup) (bet : ℕ) (words : List ℕ) (choice : Option ℕ) → bet ≤ 9 → AtMost (base_win setup Game.Reels bet words choice)
 base_small setup bet words None le = base_if (has_pick setup words) (lines_win setup bet words) (omega (arith, lines_win_small setup bet words le))
 base_small setup bet words (Some door) le = omega (arith, lines_win_small setup bet words le, prize_small setup words door bet le)
-
-either : (is_over : Bool) (a b : StageOpen) (win : ℕ) → win ≤ 9000000 → (let s : Stage = if is_over then record { phase = a; win = win } else record { phase = b; win = win } in s.win) ≤ 9000000
-either true a b win le = le
-either false a b win le = le
-
-stage_small : (setup : Setup) (words : List ℕ) (choice : Option ℕ) (colours : ℕ) (base : Option ℕ) → AtMost base
-    → (stage_with setup Game.Reels words (record { choice = choice; turns = 0; colours = colours }) base).win ≤ 9000000
-stage_small setup words choice colours None le = omega arith
-stage_small setup words choice colours (Some base) le = either _ StageOpen.Ended StageOpen.Gamble base le
-
--- nine lines of 5,000 credits, and the prize of a pick, with the most cents for each credit
-pub most_win : (setup : Setup) (bet : ℕ) (words : List ℕ) (choice : Option ℕ) (colours : ℕ) → bet ≤ 9
-    → (stage setup Game.Reels bet words (record { choice = choice; turns = 0; colours = colours })).win ≤ 9000000
-most_win setup bet words choice colours le = stage_small setup words choice colours (base_win setup Game.Reels bet words choice) (base_small setup bet words choice le)

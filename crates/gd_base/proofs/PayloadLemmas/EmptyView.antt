@@ -13,12 +13,13 @@ use Rattle.gd_base.specs.declared.payout.Handpay.{Handpay}
 use Rattle.gd_base.specs.declared.payout.Order.{Order}
 use Rattle.gd_base.specs.declared.play.PlayRecord.{PlayRecord}
 use Rattle.gd_base.specs.declared.records.VoucherRecord.{VoucherRecord}
-use Rattle.gd_base.specs.Payloads.ViewRules.{is_possible, view_rules, total, income, outgo, is_flagged_last, fall_from, play_limit, has_number, is_some_handpay, is_open_as, is_open_record}
+use Rattle.gd_base.specs.Payloads.ViewRules.{is_possible, total, income, outgo, is_flagged_last, fall_from, play_limit, has_number, is_some_handpay, is_open_as, is_open_record}
 use Rattle.gd_base.specs.Histories.Meters.{handpay_amount}
 use Rattle.gd_base.specs.Histories.View.{View}
 use Rattle.gd_base.specs.Histories.ViewOf.{nothing_kept}
 use Rattle.gd_base.proofs.PayloadLemmas.Itself.{numbers_by, by_places}
-use Rattle.gd_base.proofs.BoolTests.{all_told, at_most, both, is_so}
+use Rattle.gd_base.proofs.BoolTests.{at_most, both, is_so}
+use Rattle.gd_base.proofs.ViewFacts.{rules_of}
 
 -- ================ numbers
 
@@ -146,32 +147,24 @@ pub record IsBare (v : View) : Type 0 where
 
 pub bare : (v : View) → is_possible v ≡ true → v.count ≡ 0 → IsBare v
 bare v h e =
-    let t = all_told (view_rules v) h in
-    let sixteen : length v.totals ≡ 16 = is_so (length v.totals) 16 t.1.1.0 in
-    let nine : length v.kept ≡ 9 = is_so (length v.kept) 9 t.1.1.1.1.1.0 in
-    let are_all = both (sum (map (λ k. k.0) v.kept) == v.count) (list_all is_flagged_last v.kept) t.1.1.1.1.1.1.1.0 in
-    let books = both (outgo v == income v) (nat_le (income v) (v.count * 100000000)) t.1.1.1.1.1.1.1.1.0 in
-    let same : outgo v ≡ income v = is_so (outgo v) (income v) books.0 in
-    let most : income v ≤ v.count * 100000000 = at_most (income v) (v.count * 100000000) books.1 in
-    let orders : v.orders ≡ 0 = (let le : v.orders ≤ v.count = at_most v.orders v.count t.1.1.1.1.1.1.1.1.1.1.0 in omega (arith, le, e)) in
-    let play : v.play ≡ None = play_none v v.play e t.1.1.1.1.1.1.1.1.1.1.1.1.1.1.1.1.1.1.1.1.1.1.0 in
+    let r = rules_of v h in
+    let same = r.books in
+    let most = r.bound in
+    let are_all = both (sum (map (λ k. k.0) v.kept) == v.count) (list_all is_flagged_last v.kept) r.numbered in
+    let orders : v.orders ≡ 0 = (let le = r.orders in omega (arith, le, e)) in
+    let play : v.play ≡ None = play_none v v.play e r.play_placed in
     let limit : play_limit v v.play ≤ 1 = (let is : play_limit v v.play ≡ v.count + 1 = ap (play_limit v) play in omega (arith, is, e)) in
     let more : v.count + 1 ≤ 1 = omega (arith, e) in
-    let a = both (fall_from (play_limit v v.play) (map (λ p. p.place) v.plays) && fall_from (v.count + 1) (map (λ x. x.place) v.events)
-    && fall_from (v.count + 1) (map (λ b. b.place) v.bills)) (fall_from (v.count + 1) (map (λ r. r.place) v.vouchers)) t.1.1.1.1.1.1.1.1.1.1.1.0 in
-    let b = both (fall_from (play_limit v v.play) (map (λ p. p.place) v.plays) && fall_from (v.count + 1) (map (λ x. x.place) v.events))
-    (fall_from (v.count + 1) (map (λ b. b.place) v.bills)) a.0 in
-    let c = both (fall_from (play_limit v v.play) (map (λ p. p.place) v.plays)) (fall_from (v.count + 1) (map (λ x. x.place) v.events)) b.0 in
     record {
       balance = omega (arith, same, most, e);
-      totals = sym (by_places 16 v.totals sixteen) ∙ zeros_at 16 (slice_index v.totals) (λ i lt. total_none v same most t.1.1.1.1.1.1.1.1.1.0 e i);
+      totals = sym (by_places 16 v.totals r.meters) ∙ zeros_at 16 (slice_index v.totals) (λ i lt. total_none v same most r.counts e i);
       play = play;
       orders = orders;
-      order = order_none v.orders v.order orders t.1.1.1.1.1.1.1.1.1.1.1.1.1.1.0;
-      handpay = handpay_none v.handpay (omega (arith, same, most, e)) t.1.1.1.1.1.1.1.1.1.1.1.1.1.1.1.0;
-      kept = kept_none v.kept (is_so _ v.count are_all.0 ∙ e) are_all.1 ∙ ap (λ (n : ℕ). replicate n nothing_kept) nine;
-      plays = places_none (λ (p : PlayRecord). p.place) (play_limit v v.play) v.plays limit c.0;
-      events = places_none (λ (x : EventRecord). x.place) (v.count + 1) v.events more c.1;
-      bills = places_none (λ (x : BillRecord). x.place) (v.count + 1) v.bills more b.1;
-      vouchers = places_none (λ (x : VoucherRecord). x.place) (v.count + 1) v.vouchers more a.1;
+      order = order_none v.orders v.order orders r.order_number;
+      handpay = handpay_none v.handpay (omega (arith, same, most, e)) r.some_handpay;
+      kept = kept_none v.kept (is_so _ v.count are_all.0 ∙ e) are_all.1 ∙ ap (λ (n : ℕ). replicate n nothing_kept) r.devices;
+      plays = places_none (λ (p : PlayRecord). p.place) (play_limit v v.play) v.plays limit r.plays_fall;
+      events = places_none (λ (x : EventRecord). x.place) (v.count + 1) v.events more r.events_fall;
+      bills = places_none (λ (x : BillRecord). x.place) (v.count + 1) v.bills more r.bills_fall;
+      vouchers = places_none (λ (x : VoucherRecord). x.place) (v.count + 1) v.vouchers more r.vouchers_fall;
     }

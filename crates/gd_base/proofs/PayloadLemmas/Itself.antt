@@ -10,12 +10,12 @@ use Rattle.gd_base.specs.Histories.Credit.{wager}
 use Rattle.gd_base.specs.Histories.Devices.{kept_at}
 use Rattle.gd_base.specs.Histories.Recall.{play_record, play_start_of}
 use Rattle.gd_base.specs.Histories.Rounds.{choices_of, round_of}
-use Rattle.gd_base.specs.Payloads.ViewRules.{is_possible, is_possible_under, view_rules, setup_rules, is_open_record, is_open_as, is_played}
+use Rattle.gd_base.specs.Payloads.ViewRules.{is_possible, is_possible_under, is_open_record, is_open_as, is_played}
 use Rattle.gd_base.specs.Games.Stage.{stage, are_choices}
 use Rattle.gd_base.specs.Histories.View.{View}
 use Rattle.gd_base.specs.Histories.ViewOf.{IsItself}
-use Rattle.gd_base.proofs.PayloadLemmas.OneView.{widths}
-use Rattle.gd_base.proofs.BoolTests.{all_told, at_most, both, is_so}
+use Rattle.gd_base.proofs.BoolTests.{both, is_so}
+use Rattle.gd_base.proofs.ViewFacts.{rules_of, fitting_of}
 
 -- ================ lists of a known length, place by place
 
@@ -76,18 +76,12 @@ play_itself v setup (Some p) h k =
 
 pub possible-itself : (setup : Setup) (v : View) → is_possible v ≡ true → is_possible_under setup v ≡ true → IsItself setup v
 possible-itself setup v h k =
-    let w = widths v h in
-    let t = all_told (view_rules v) h in
-    let short = t.1.1.1.1.1.1.1.1.1.1.1.1.0 in
-    let s3 = both (nat_le (length v.plays) PLAYS_KEPT && nat_le (length v.events) EVENTS_KEPT && nat_le (length v.bills) BILLS_KEPT) (nat_le (length v.vouchers) VOUCHERS_KEPT) short in
-    let s2 = both (nat_le (length v.plays) PLAYS_KEPT && nat_le (length v.events) EVENTS_KEPT) (nat_le (length v.bills) BILLS_KEPT) s3.0 in
-    let s1 = both (nat_le (length v.plays) PLAYS_KEPT) (nat_le (length v.events) EVENTS_KEPT) s2.0 in
-    let played = (all_told (setup_rules setup v) k).1.1.0 in
-    let open_place = t.1.1.1.1.1.1.1.1.1.1.1.1.1.1.1.1.1.1.1.1.1.1.0 in
-    let totals = by_places 16 v.totals w.totals_len in
-    let doors = flags_at 4 v.doors w.doors in
-    let tilts = flags_at 6 v.tilts w.tilts in
-    let kept = kept_places 9 v.kept w.kept_len in
+    let r = rules_of v h in
+    let f = fitting_of setup v k in
+    let totals = by_places 16 v.totals r.meters in
+    let doors = flags_at 4 v.doors r.doors in
+    let tilts = flags_at 6 v.tilts r.tilts in
+    let kept = kept_places 9 v.kept r.devices in
     λ i. record {
       digest = v.digest;
       count = v.count;
@@ -95,13 +89,13 @@ possible-itself setup v h k =
       totals = totals i;
       doors = doors i;
       tilts = tilts i;
-      play = play_itself v setup v.play open_place played i;
+      play = play_itself v setup v.play r.play_placed f.play i;
       orders = v.orders;
       order = v.order;
       handpay = v.handpay;
       kept = kept i;
-      plays = taken PLAYS_KEPT v.plays (at_most (length v.plays) PLAYS_KEPT s1.0) i;
-      events = taken EVENTS_KEPT v.events (at_most (length v.events) EVENTS_KEPT s1.1) i;
-      bills = taken BILLS_KEPT v.bills (at_most (length v.bills) BILLS_KEPT s2.1) i;
-      vouchers = taken VOUCHERS_KEPT v.vouchers (at_most (length v.vouchers) VOUCHERS_KEPT s3.1) i;
+      plays = taken PLAYS_KEPT v.plays r.plays_short i;
+      events = taken EVENTS_KEPT v.events r.events_short i;
+      bills = taken BILLS_KEPT v.bills r.bills_short i;
+      vouchers = taken VOUCHERS_KEPT v.vouchers r.vouchers_short i;
     }

@@ -1,22 +1,23 @@
 -- In the draft layout two views that keep the rules of a view and have one payload are one.
-use Rattle.std.specs.Prelude.{◌≡◌, ℕ, zero, suc, ◌+◌, ◌*◌, ◌-◌, ◌<◌, ◌≤◌, ◌^◌, ◌==◌, true, ◌&&◌, nat_le, List, [], ◌∷◌, ◌++◌, length, map, flat_map, drop, sum, slice_index, replicate, Option, Some, None, refl}
+use Rattle.std.specs.Prelude.{◌≡◌, ℕ, zero, suc, ◌+◌, ◌-◌, ◌<◌, ◌≤◌, ◌^◌, ◌==◌, true, ◌&&◌, nat_le, List, [], ◌∷◌, ◌++◌, length, map, flat_map, drop, sum, slice_index, replicate, Option, Some, None, refl}
 use Rattle.std.specs.List.{list_all}
 use Rattle.std.proofs.Common.{ap, sym, ◌∙◌, arith, append_assoc}
 use Rattle.std.proofs.lemmas.List.Sums.{sum_by-cons}
 use Rattle.gd_base.specs.declared.layout.TheConstants.{HEAD_LEN, OPEN_PLAY_LEN, PLAYS_LEN, EVENTS_LEN, BILLS_LEN, VOUCHERS_LEN, REST_LEN}
-use Rattle.gd_base.specs.declared.records.TheConstants.{PLAYS_KEPT, EVENTS_KEPT, BILLS_KEPT, VOUCHERS_KEPT}
 use Rattle.gd_base.specs.declared.refusal.Reply.{Reply}
 use Rattle.gd_base.specs.declared.payout.Handpay.{Handpay}
 use Rattle.gd_base.specs.declared.payout.Order.{Order}
 use Rattle.gd_base.specs.declared.play.PlayRecord.{PlayRecord}
 use Rattle.gd_base.specs.Payloads.Bytes.{two, eight, filled_part, flags, play_bytes, event_bytes, bill_bytes, voucher_bytes, kept_bytes, handpay_bytes, kind_code, order_bytes, open_bytes, head_bytes, payload_of}
 use Rattle.gd_base.specs.Histories.Credit.{order_amount}
-use Rattle.gd_base.specs.Payloads.ViewRules.{is_possible, view_rules, is_event, is_bill_record, is_voucher, is_play_record, is_open_record, is_open_as, fall_from, play_limit, has_number, income, outgo, is_flagged_last, Spells}
+use Rattle.gd_base.specs.Payloads.ViewRules.{is_possible, is_event, is_bill_record, is_voucher, is_play_record, is_open_record, is_open_as, play_limit, has_number, is_flagged_last}
+use Rattle.gd_base.specs.Payloads.Spelling.{Spells}
 use Rattle.gd_base.specs.Histories.Meters.{handpay_amount}
 use Rattle.gd_base.specs.Histories.View.{View}
 use Rattle.gd_base.proofs.PayloadLemmas.Fields.{Reads, Each, cons_reads, split, cancel, eight_reads, two_reads, list_reads, filled_list_reads, zeros_after, each_placed, each_passed, flags_one}
 use Rattle.gd_base.proofs.PayloadLemmas.Records.{Placed, bill_reads, voucher_reads, event_reads, play_reads, kept_reads, handpay_reads, IsAmount, IsNumbered, order_one}
-use Rattle.gd_base.proofs.BoolTests.{all_told, at_most, both, is_so}
+use Rattle.gd_base.proofs.BoolTests.{at_most, both, is_so}
+use Rattle.gd_base.proofs.ViewFacts.{rules_of}
 
 -- ================ widths, from the rules
 
@@ -102,33 +103,18 @@ open_of v (Some p) le r h =
 
 pub widths : (v : View) → is_possible v ≡ true → Widths v
 widths v h =
-    let t = all_told (view_rules v) h in
-    let count = at_most v.count (2 ^ 36) t.1.1.1.1.1.1.0 in
-    let kept = both (sum (map (λ k. k.0) v.kept) == v.count) (list_all is_flagged_last v.kept) t.1.1.1.1.1.1.1.0 in
-    let balanced = both (outgo v == income v) (nat_le (income v) (v.count * 100000000)) t.1.1.1.1.1.1.1.1.0 in
-    let same : outgo v ≡ income v = is_so (outgo v) (income v) balanced.0 in
-    let within : income v ≤ v.count * 100000000 = at_most (income v) (v.count * 100000000) balanced.1 in
-    let places = t.1.1.1.1.1.1.1.1.1.1.1.0 in
-    let events_fall = fall_from (v.count + 1) (map (λ e. e.place) v.events) in
-    let bills_fall = fall_from (v.count + 1) (map (λ b. b.place) v.bills) in
-    let vouchers_fall = fall_from (v.count + 1) (map (λ r. r.place) v.vouchers) in
-    let plays_fall = fall_from (play_limit v v.play) (map (λ p. p.place) v.plays) in
-    let p3 = both (plays_fall && events_fall && bills_fall) vouchers_fall places in
-    let p2 = both (plays_fall && events_fall) bills_fall p3.0 in
-    let p1 = both plays_fall events_fall p2.0 in
-    let short = t.1.1.1.1.1.1.1.1.1.1.1.1.0 in
-    let s3 = both (nat_le (length v.plays) PLAYS_KEPT && nat_le (length v.events) EVENTS_KEPT && nat_le (length v.bills) BILLS_KEPT) (nat_le (length v.vouchers) VOUCHERS_KEPT) short in
-    let s2 = both (nat_le (length v.plays) PLAYS_KEPT && nat_le (length v.events) EVENTS_KEPT) (nat_le (length v.bills) BILLS_KEPT) s3.0 in
-    let s1 = both (nat_le (length v.plays) PLAYS_KEPT) (nat_le (length v.events) EVENTS_KEPT) s2.0 in
-    let others = t.1.1.1.1.1.1.1.1.1.1.1.1.1.1.1.1.1 in
-    let open_place = others.1.1.1.1.1.0 in
-    let counts = each_passed (λ n. nat_le n v.count) Short (λ n k. omega (arith, at_most n v.count k, count)) (drop 9 v.totals) t.1.1.1.1.1.1.1.1.1.0 in
+    let r = rules_of v h in
+    let count = r.count in
+    let same = r.books in
+    let within = r.bound in
+    let kept = both (sum (map (λ k. k.0) v.kept) == v.count) (list_all is_flagged_last v.kept) r.numbered in
+    let counts = each_passed (λ n. nat_le n v.count) Short (λ n k. omega (arith, at_most n v.count k, count)) (drop 9 v.totals) r.counts in
     let top : v.count + 1 ≤ 2 ^ 64 = omega (arith, count) in
     record {
-      digest = is_so (length v.digest) 32 t.0;
+      digest = r.digest_length;
       count = omega (arith, count);
       balance = omega (arith, count, same, within);
-      totals_len = is_so (length v.totals) 16 t.1.1.0;
+      totals_len = r.meters;
       totals = each_from 9 v.totals (nine v.totals (
         omega (arith, count, same, within),
         omega (arith, count, same, within),
@@ -140,23 +126,23 @@ widths v h =
         omega (arith, count, same, within),
         omega (arith, count, same, within),
       )) counts;
-      doors = is_so (length v.doors) 4 t.1.1.1.0;
-      tilts = is_so (length v.tilts) 6 t.1.1.1.1.0;
+      doors = r.doors;
+      tilts = r.tilts;
       handpay = amount_of v.handpay (omega (arith, count, same, within));
-      orders = omega (arith, count, at_most v.orders v.count t.1.1.1.1.1.1.1.1.1.1.0);
+      orders = (let few = r.orders in omega (arith, count, few));
       order = omega (arith, count, same, within);
-      numbered = number_of v.orders v.order t.1.1.1.1.1.1.1.1.1.1.1.1.1.1.0;
-      kept_len = is_so (length v.kept) 9 t.1.1.1.1.1.0;
+      numbered = number_of v.orders v.order r.order_number;
+      kept_len = r.devices;
       kept = each_kept v.kept v.count (omega (arith, is_so (sum (map (λ k. k.0) v.kept)) v.count kept.0)) (omega (arith, count));
-      plays_len = omega (arith, at_most (length v.plays) PLAYS_KEPT s1.0);
-      events_len = omega (arith, at_most (length v.events) EVENTS_KEPT s1.1);
-      bills_len = omega (arith, at_most (length v.bills) BILLS_KEPT s2.1);
-      vouchers_len = omega (arith, at_most (length v.vouchers) VOUCHERS_KEPT s3.1);
-      play = open_of v v.play count others.1.1.1.1.0 open_place;
-      plays = each_placed (λ r. r.place) is_play_record (play_limit v v.play) v.plays others.1.1.1.0 p1.0 (limit_of v v.play count open_place);
-      events = each_placed (λ r. r.place) is_event (v.count + 1) v.events others.0 p1.1 top;
-      bills = each_placed (λ r. r.place) is_bill_record (v.count + 1) v.bills others.1.0 p2.1 top;
-      vouchers = each_placed (λ r. r.place) is_voucher (v.count + 1) v.vouchers others.1.1.0 p3.1 top;
+      plays_len = (let few = r.plays_short in omega (arith, few));
+      events_len = (let few = r.events_short in omega (arith, few));
+      bills_len = (let few = r.bills_short in omega (arith, few));
+      vouchers_len = (let few = r.vouchers_short in omega (arith, few));
+      play = open_of v v.play count r.play r.play_placed;
+      plays = each_placed (λ r. r.place) is_play_record (play_limit v v.play) v.plays r.plays r.plays_fall (limit_of v v.play count r.play_placed);
+      events = each_placed (λ r. r.place) is_event (v.count + 1) v.events r.events r.events_fall top;
+      bills = each_placed (λ r. r.place) is_bill_record (v.count + 1) v.bills r.bills r.bills_fall top;
+      vouchers = each_placed (λ r. r.place) is_voucher (v.count + 1) v.vouchers r.vouchers r.vouchers_fall top;
     }
 
 -- ================ the payload in a row
@@ -168,24 +154,24 @@ eleven : (a b c d e f g h i j k x : List ℕ) → a ++ b ++ c ++ d ++ e ++ f ++ 
 eleven a b c d e f g h i j k x = simp append_assoc
 
 -- behind the head
-abbrev records_row : View → List ℕ
+abbrev pub records_row : View → List ℕ
 records_row v =
     filled_part OPEN_PLAY_LEN (open_bytes v.play) ++ (filled_part PLAYS_LEN (flat_map play_bytes v.plays) ++ (filled_part EVENTS_LEN (flat_map event_bytes v.events)
     ++ (filled_part BILLS_LEN (flat_map bill_bytes v.bills) ++ filled_part (VOUCHERS_LEN + REST_LEN) (flat_map voucher_bytes v.vouchers))))
 
-abbrev zeros_row : View → List ℕ
+abbrev pub zeros_row : View → List ℕ
 zeros_row v = replicate (HEAD_LEN - length (head_bytes v)) 0 ++ records_row v
 
-abbrev lengths_row : View → List ℕ → List ℕ
+abbrev pub lengths_row : View → List ℕ → List ℕ
 lengths_row v x = two (length v.plays) ++ (two (length v.events) ++ (two (length v.bills) ++ (two (length v.vouchers) ++ x)))
 
-abbrev flags_row : View → List ℕ → List ℕ
+abbrev pub flags_row : View → List ℕ → List ℕ
 flags_row v x = flags v.doors ∷ flags v.tilts ∷ (handpay_bytes v.handpay ++ (order_bytes v.orders v.order ++ (flat_map kept_bytes v.kept ++ lengths_row v x)))
 
-abbrev head_row : View → List ℕ → List ℕ
+abbrev pub head_row : View → List ℕ → List ℕ
 head_row v x = v.digest ++ (eight v.count ++ (eight v.balance ++ (flat_map eight v.totals ++ flags_row v x)))
 
-payload_row : (v : View) → payload_of v ≡ head_row v (zeros_row v)
+pub payload_row : (v : View) → payload_of v ≡ head_row v (zeros_row v)
 payload_row v =
     six (filled_part HEAD_LEN (head_bytes v)) (filled_part OPEN_PLAY_LEN (open_bytes v.play)) (filled_part PLAYS_LEN (flat_map play_bytes v.plays)) (filled_part EVENTS_LEN (flat_map event_bytes v.events))
     (filled_part BILLS_LEN (flat_map bill_bytes v.bills)) (filled_part (VOUCHERS_LEN + REST_LEN) (flat_map voucher_bytes v.vouchers))

@@ -11,7 +11,7 @@ use Rattle.gd_base.specs.Histories.View.{View}
 use Rattle.gd_base.proofs.PayloadLemmas.OneView.{one_view}
 use Rattle.gd_base.proofs.BoolTests.{both}
 
-numbers_one : (xs ys : List ℕ) → same_numbers xs ys ≡ true → xs ≡ ys
+pub numbers_one : (xs ys : List ℕ) → same_numbers xs ys ≡ true → xs ≡ ys
 numbers_one [] [] h = refl
 numbers_one [] (y ∷ ys) h = absurd (cc h)
 numbers_one (x ∷ xs) [] h = absurd (cc h)

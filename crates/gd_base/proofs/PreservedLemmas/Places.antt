@@ -23,7 +23,7 @@ use Rattle.gd_base.proofs.BoolTests.{both}
 use Rattle.gd_base.specs.Judging.Product.{both_hold}
 
 -- under a greater limit, and with the last ones gone
-fall_more : (m n : ℕ) (xs : List ℕ) → m ≤ n → fall_from m xs ≡ true → fall_from n xs ≡ true
+pub fall_more : (m n : ℕ) (xs : List ℕ) → m ≤ n → fall_from m xs ≡ true → fall_from n xs ≡ true
 fall_more m n [] le h = refl
 fall_more m n (x ∷ xs) le h =
     let t = both (nat_le 1 x && nat_lt x m) (fall_from x xs) h in
@@ -31,7 +31,7 @@ fall_more m n (x ∷ xs) le h =
     let below : nat_lt x n ≡ true = grind (arith, nat_tests, u.1, le) in
     both_hold (nat_le 1 x && nat_lt x n) (fall_from x xs) (both_hold (nat_le 1 x) (nat_lt x n) u.0 below) t.1
 
-fall_take : {A : Type 0} (place : A → ℕ) (n limit : ℕ) (xs : List A) → fall_from limit (map place xs) ≡ true → fall_from limit (map place (take n xs)) ≡ true
+pub fall_take : {A : Type 0} (place : A → ℕ) (n limit : ℕ) (xs : List A) → fall_from limit (map place xs) ≡ true → fall_from limit (map place (take n xs)) ≡ true
 fall_take place zero limit [] h = refl
 fall_take place zero limit (x ∷ xs) h = refl
 fall_take place (suc n) limit [] h = refl

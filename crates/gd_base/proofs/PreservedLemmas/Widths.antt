@@ -1,11 +1,10 @@
--- Rules of a view that one entry more keeps. These are some of them: the lengths, the count, what is kept of the devices,
--- the number of orders, and how long the lists of recall are.
-use Rattle.std.specs.Prelude.{◌≡◌, ℕ, zero, suc, ◌+◌, ◌<◌, ◌≤◌, ◌^◌, ◌==◌, min, Bool, true, false, ◌&&◌, is_some, is_none, nat_le, if◌then◌else◌, List, [], ◌∷◌, length, map, sum, take, Option, Some, refl}
+-- Rules of a view that one entry more keeps. These are some of them: the number of orders, what is kept of the devices, and
+-- how long the lists of recall are.
+use Rattle.std.specs.Prelude.{◌≡◌, ℕ, zero, suc, ◌+◌, ◌≤◌, ◌==◌, min, Bool, true, false, is_some, is_none, if◌then◌else◌, List, [], ◌∷◌, length, map, sum, take, Option, Some, refl}
 use Rattle.std.specs.List.{list_all}
 use Rattle.std.proofs.Common.{ap, ◌∙◌, arith, add-zero}
 use Rattle.std.proofs.lemmas.Bool.Decides.{nat_tests}
 use Rattle.std.proofs.lemmas.List.{length-take}
-use Rattle.gd_base.specs.declared.records.TheConstants.{PLAYS_KEPT, EVENTS_KEPT, BILLS_KEPT, VOUCHERS_KEPT}
 use Rattle.gd_base.specs.declared.device.Device.{Device}
 use Rattle.gd_base.specs.declared.event.Event.{Event}
 use Rattle.gd_base.specs.declared.refusal.Reply.{Reply}
@@ -14,21 +13,12 @@ use Rattle.gd_base.specs.Histories.Credit.{Payment, ByHopper, ByPrinter, ByHand,
 use Rattle.gd_base.specs.Histories.Devices.{kept_at}
 use Rattle.gd_base.specs.Histories.Entry.{Entry, device_of}
 use Rattle.gd_base.specs.Histories.Numbers.{is_device}
-use Rattle.gd_base.specs.Payloads.ViewRules.{are_numbered, are_short, is_flagged_last}
+use Rattle.gd_base.specs.Payloads.ViewRules.{are_numbered, is_flagged_last}
 use Rattle.gd_base.specs.Histories.View.{View}
 use Rattle.gd_base.specs.Histories.ViewOf.{with_entry}
 use Rattle.gd_base.proofs.PayloadLemmas.Itself.{Pair, kept_by, kept_places}
 use Rattle.gd_base.proofs.BoolTests.{both, is_equal, is_so}
 use Rattle.gd_base.specs.Judging.Product.{both_hold}
-
--- ================ lengths and the count
-
-pub lengths_kept : (setup : Setup) (v : View) (e : Entry)
-    → (length (with_entry setup v e).totals ≡ 16) × (length (with_entry setup v e).doors ≡ 4) × (length (with_entry setup v e).tilts ≡ 6) × (length (with_entry setup v e).kept ≡ 9)
-lengths_kept setup v e = (refl, refl, refl, refl)
-
-pub count_kept : (setup : Setup) (v : View) (e : Entry) → v.count < 2 ^ 36 → nat_le (with_entry setup v e).count (2 ^ 36) ≡ true
-count_kept setup v e room = grind (arith, nat_tests, room)
 
 -- ================ the number of orders
 
@@ -93,13 +83,5 @@ devices_kept setup v e len h =
 
 -- ================ the lists of recall
 
-short : {A : Type 0} (n : ℕ) (xs : List A) → nat_le (length (take n xs)) n ≡ true
-short n xs = let len : length (take n xs) ≡ min n (length xs) = length-take n xs in grind (arith, nat_tests, len)
-
-pub lists_short : (setup : Setup) (v : View) (e : Entry) → are_short (with_entry setup v e) ≡ true
-lists_short setup v e =
-    let w = with_entry setup v e in
-    both_hold (nat_le (length w.plays) PLAYS_KEPT && nat_le (length w.events) EVENTS_KEPT && nat_le (length w.bills) BILLS_KEPT) (nat_le (length w.vouchers) VOUCHERS_KEPT)
-    (both_hold (nat_le (length w.plays) PLAYS_KEPT && nat_le (length w.events) EVENTS_KEPT) (nat_le (length w.bills) BILLS_KEPT)
-    (both_hold (nat_le (length w.plays) PLAYS_KEPT) (nat_le (length w.events) EVENTS_KEPT) (short PLAYS_KEPT _) (short EVENTS_KEPT _)) (short BILLS_KEPT _))
-    (short VOUCHERS_KEPT _)
+pub short : {A : Type 0} (n : ℕ) (xs : List A) → length (take n xs) ≤ n
+short n xs = let len : length (take n xs) ≡ min n (length xs) = length-take n xs in omega (arith, len)

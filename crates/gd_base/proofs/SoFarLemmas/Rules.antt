@@ -1,6 +1,6 @@
 -- For callers: the rules of a view of what is built, and that an entry keeps them.
-use Rattle.std.proofs.Common.{◌≡◌, ◌∙◌, ap, sym, refl, ℕ, ◌+◌, ◌-◌, ◌*◌, ◌^◌, ◌<◌, ◌≤◌, ◌==◌, ◌&&◌, List, [], ◌∷◌, Bool, true, false, not, if◌then◌else◌, nat_lt, nat_le, is_some, length, map, sum, take, drop, slice_index, zero, suc, ◌||◌, arith, Option, Some, None}
-use Rattle.std.specs.List.{list_all, list_any}
+use Rattle.std.proofs.Common.{◌≡◌, ◌∙◌, ap, sym, refl, ℕ, ◌+◌, ◌-◌, ◌*◌, ◌^◌, ◌<◌, ◌≤◌, ◌==◌, ◌&&◌, List, [], ◌∷◌, Bool, true, false, not, if◌then◌else◌, nat_lt, nat_le, is_some, length, map, sum, drop, slice_index, arith, Option, Some, None}
+use Rattle.std.specs.List.{list_all}
 use Rattle.std.proofs.lemmas.Bool.Decides.{nat_tests}
 use Rattle.gd_base.specs.declared.event.Event.{Event}
 use Rattle.gd_base.specs.declared.game.Game.{Game}
@@ -16,17 +16,17 @@ use Rattle.gd_base.specs.Histories.History.{or_else}
 use Rattle.gd_base.specs.Histories.Meters.{with_one, with_additions, win_additions, handpay_of_win}
 use Rattle.gd_base.specs.Histories.Recall.{play_record}
 use Rattle.gd_base.specs.Histories.Rounds.{round_of, round_stage, choices_of, new_round, with_choice}
-use Rattle.gd_base.specs.Judging.Rule.{is_bill}
-use Rattle.gd_base.specs.Setups.SetupRules.{rise_above}
 use Rattle.gd_base.specs.Judging.SoFar.{view_so_far, is_reels, is_plain, keeps_rules_so_far}
 use Rattle.gd_base.specs.Histories.Devices.{with_reply}
-use Rattle.gd_base.specs.Payloads.ViewRules.{is_possible, is_possible_under, view_rules, setup_rules, record_rules, is_play_record, is_played, is_in, is_choice_value, is_some_handpay, not_both, is_placed, is_open_as, is_flagged_last, outgo, income}
+use Rattle.gd_base.specs.Payloads.ViewRules.{is_possible, is_possible_under, record_rules, is_play_record, is_played, is_in, is_choice_value, is_some_handpay, not_both, is_placed, is_open_as, is_flagged_last, outgo, income}
 use Rattle.gd_base.specs.Histories.Meters.{handpay_amount}
 use Rattle.gd_base.specs.Games.Stage.{stage, is_bet, is_stage, are_choices}
 use Rattle.gd_base.proofs.PayloadLemmas.Fields.{Each, each_passed}
 use Rattle.gd_base.proofs.PreservedLemmas.Widths.{devices_kept}
 use Rattle.gd_base.proofs.BoolTests.{all_hold, all_told, at_most, both, is_below, is_equal, is_so, is_within}
-use Rattle.gd_base.proofs.HistoryLemmas.Wins.{most_win, wager_small}
+use Rattle.gd_base.proofs.ViewFacts.{rules_of, possible_of, fitting_of, under_of}
+use Rattle.gd_base.proofs.HistoryLemmas.Wins.{wager_small}
+use Rattle.gd_base.proofs.StageLemmas.MostWin.{most_win}
 use Rattle.gd_base.specs.Judging.Product.{both_hold, number_itself}
 
 abbrev Kept : Type 0
@@ -68,33 +68,22 @@ counted setup count balance totals play handpay kept h =
     let v = view_so_far count balance totals play handpay kept in
     let whole = both (is_possible v && is_possible_under setup v) (is_open_as is_plain play) h in
     let rules = both (is_possible v) (is_possible_under setup v) whole.0 in
-    let t = all_told (view_rules v) rules.0 in
-    let u = all_told (setup_rules setup v) rules.1 in
-    let b = both (outgo v == income v) (nat_le (income v) (count * 100000000)) t.1.1.1.1.1.1.1.1.0 in
-    let same : outgo v ≡ income v = is_so (outgo v) (income v) b.0 in
-    let within : income v ≤ count * 100000000 = at_most (income v) (count * 100000000) b.1 in
-    let rest = t.1.1.1.1.1.1.1.1.1.1.1.1.1.1.1 in
+    let r = rules_of v rules.0 in
+    let f = fitting_of setup v rules.1 in
+    let same = r.books in
+    let within = r.bound in
     record {
-      room = at_most count (2 ^ 36) t.1.1.1.1.1.1.0;
-      devices = record {
-        nine = is_so (length kept) 9 t.1.1.1.1.1.0;
-        told = t.1.1.1.1.1.1.1.0;
-      };
+      room = r.count;
+      devices = record { nine = r.devices; told = r.numbered };
       sums = record {
-        sixteen = is_so (length totals) 16 t.1.1.0;
+        sixteen = r.meters;
         books = omega (arith, same);
         bound = omega (arith, within);
-        counts = each_passed (λ n. nat_le n count) (λ n. n ≤ count) (λ n k. at_most n count k) (drop 9 totals) t.1.1.1.1.1.1.1.1.1.0;
+        counts = each_passed (λ n. nat_le n count) (λ n. n ≤ count) (λ n k. at_most n count k) (drop 9 totals) r.counts;
       };
-      held = rest.0;
-      alone = rest.1.0;
-      open_play = record {
-        recorded = rest.1.1.1.1.1.1.0;
-        placed = rest.1.1.1.1.1.1.1.0;
-        played = u.1.1.0;
-        going = u.1.1.1.1.0;
-        plain = whole.1;
-      };
+      held = r.some_handpay;
+      alone = r.one_open;
+      open_play = record { recorded = r.play; placed = r.play_placed; played = f.play; going = f.going; plain = whole.1 };
     }
 
 -- plays, games won and starts are at most the entries
@@ -115,36 +104,39 @@ whole_of setup count balance totals play handpay kept k =
     let bound = k.sums.bound in
     let sums : outgo v ≡ income v = omega (arith, books) in
     let within : income v ≤ count * 100000000 = omega (arith, bound) in
-    let none : nat_le 0 count ≡ true = is_within 0 count (omega arith) in
-    let possible = all_hold (view_rules v) (
-      refl,
-      (
-        refl,
-        (
-          is_equal (length totals) 16 k.sums.sixteen,
-          (
-            refl,
-            (
-              refl,
-              (
-                is_equal (length kept) 9 k.devices.nine,
-                (
-                  is_within count (2 ^ 36) k.room,
-                  (
-                    k.devices.told,
-                    (
-                      both_hold (outgo v == income v) (nat_le (income v) (count * 100000000)) (is_equal (outgo v) (income v) sums) (is_within (income v) (count * 100000000) within),
-                      (every_count count (drop 9 totals) k.sums.counts, (none, (refl, (refl, (refl, (refl, (k.held, (k.alone, (refl, (refl, (refl, (refl, (k.open_play.recorded, (k.open_play.placed, tt)))))))))))))),
-                    ),
-                  ),
-                ),
-              ),
-            ),
-          ),
-        ),
-      ),
-    ) in
-    let under = all_hold (setup_rules setup v) (refl, (refl, (k.open_play.played, (refl, (k.open_play.going, tt))))) in
+    let possible = possible_of v (record {
+      digest_length = refl;
+      digest_bytes = refl;
+      meters = k.sums.sixteen;
+      doors = refl;
+      tilts = refl;
+      devices = k.devices.nine;
+      count = k.room;
+      numbered = k.devices.told;
+      books = sums;
+      bound = within;
+      counts = every_count count (drop 9 totals) k.sums.counts;
+      orders = omega arith;
+      plays_fall = refl;
+      events_fall = refl;
+      bills_fall = refl;
+      vouchers_fall = refl;
+      plays_short = omega arith;
+      events_short = omega arith;
+      bills_short = omega arith;
+      vouchers_short = omega arith;
+      small_order = refl;
+      order_number = refl;
+      some_handpay = k.held;
+      one_open = k.alone;
+      events = refl;
+      bills = refl;
+      vouchers = refl;
+      plays = refl;
+      play = k.open_play.recorded;
+      play_placed = k.open_play.placed;
+    }) in
+    let under = under_of setup v (record { coins = refl; plays = refl; play = k.open_play.played; finished = refl; going = k.open_play.going }) in
     both_hold (is_possible v && is_possible_under setup v) (is_open_as is_plain play) (both_hold (is_possible v) (is_possible_under setup v) possible under) k.open_play.plain
 
 -- ================ an entry more of a device
@@ -350,7 +342,7 @@ begun_kept setup count number index balance bet words good room n i b sixteen sm
     let r = new_round (count + 1) (Some (index, words)) Game.Reels bet in
     let p = play_record setup (number, balance) 0 r in
     let most = at_most bet 9 (both (nat_le 1 bet) (nat_le bet 9) good).1 in
-    let win : p.win < 2 ^ 64 = let le = most_win setup bet words None 0 most in omega (arith, le) in
+    let win : p.win < 2 ^ 64 = let le = most_win setup Game.Reels bet words r.choices most refl in omega (arith, le) in
     let paid : p.wager < 2 ^ 32 = let le : wager setup bet ≤ 900 = wager_small setup bet most in omega (arith, le) in
     record {
       recorded = all_hold (record_rules p) (
@@ -404,7 +396,7 @@ chosen_kept setup count door p k good legal going =
     let most = at_most p.bet 9 (both (nat_le 1 p.bet) (nat_le p.bet 9) bet).1 in
     let win_is : q.win ≡ (stage setup Game.Reels p.bet p.words (record { choice = Some door; turns = 0; colours = p.colours })).win =
     λ x. (stage setup (game x) p.bet p.words (record { choice = Some door; turns = none x; colours = p.colours })).win in
-    let win : q.win < 2 ^ 64 = let le = most_win setup p.bet p.words (Some door) p.colours most in omega (arith, le, win_is) in
+    let win : q.win < 2 ^ 64 = let le = most_win setup Game.Reels p.bet p.words (record { choice = Some door; turns = 0; colours = p.colours }) most refl in omega (arith, le, win_is) in
     let paid : q.wager < 2 ^ 32 = let le : wager setup p.bet ≤ 900 = wager_small setup p.bet most in omega (arith, le) in
     let value : is_choice_value p.game (Some door) ≡ true = ap (λ (g : Game). is_choice_value g (Some door)) game ∙ good in
     let u = placed_more count (Some p) k.placed in
@@ -493,24 +485,3 @@ counted_ended setup count balance win totals before kept event reply k room smal
   alone = beside_none (is_some (or_else (handpay_of_win setup win) None));
   open_play = none_open setup (count + 1);
 }
-
--- ================ a value that is enabled
-enabled_by : (is_it more : Bool) (b value : ℕ) → nat_le b 100000000 ≡ true → (b == value) ≡ is_it → (more ≡ true → value ≤ 100000000) → is_it || more ≡ true → value ≤ 100000000
-enabled_by true more b value small is rest h = let same : b ≡ value = is_so b value is in omega (arith, same, at_most b 100000000 small)
-enabled_by false more b value small is rest h = rest h
-
-enabled_small : (bills : List ℕ) (n value : ℕ) → list_all (λ x. nat_le x 100000000) bills ≡ true → list_any (λ b. b == value) (take n bills) ≡ true → value ≤ 100000000
-enabled_small [] zero value all h = absurd (cc h)
-enabled_small [] (suc n) value all h = absurd (cc h)
-enabled_small (b ∷ bills) zero value all h = absurd (cc h)
-enabled_small (b ∷ bills) (suc n) value all h =
-    let t = both (nat_le b 100000000) (list_all (λ x. nat_le x 100000000) bills) all in
-    enabled_by (b == value) (list_any (λ x. x == value) (take n bills)) b value t.0 refl (enabled_small bills n value t.1) h
-
-pub bill_small : (setup : Setup) (value : ℕ) → is_bill setup value ≡ true → value ≤ 100000000
-bill_small setup value h =
-    let zeros = list_all (λ x. x == 0) (drop setup.bill_count setup.bills) in
-    let smalls = list_all (λ x. nat_le x 100000000) setup.bills in
-    let rise = rise_above 0 (take setup.bill_count setup.bills) in
-    let t = both (nat_le setup.bill_count 8 && rise && smalls) zeros setup.has_bills in
-    enabled_small setup.bills setup.bill_count value (both (nat_le setup.bill_count 8 && rise) smalls t.0).1 h

@@ -45,7 +45,7 @@ pub only_left : (a b : Bool) → a || (false && b) ≡ true → a ≡ true
 only_left true b h = refl
 only_left false b h = h
 
-none_of : (a b : Bool) → a || b ≡ false → b ≡ false
+pub none_of : (a b : Bool) → a || b ≡ false → b ≡ false
 none_of true b h = cc
 none_of false b h = h
 

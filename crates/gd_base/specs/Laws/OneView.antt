@@ -3,7 +3,8 @@ use Rattle.std.specs.Prelude.{◌≡◌, ℕ, IsTrue, List}
 use Rattle.gd_base.specs.declared.setup.Setup.{Setup}
 use Rattle.gd_base.specs.Payloads.Bytes.{payload_of}
 use Rattle.gd_base.specs.Payloads.Spelled.{Spelled}
-use Rattle.gd_base.specs.Payloads.ViewRules.{is_possible, SpelledAs}
+use Rattle.gd_base.specs.Payloads.Spelling.{SpelledAs}
+use Rattle.gd_base.specs.Payloads.ViewRules.{is_possible}
 use Rattle.gd_base.specs.Histories.View.{View}
 
 -- two views that keep the rules of a view and have one payload are one

@@ -1,12 +1,22 @@
 -- What stands at a place of a payload, read back.
-use Rattle.std.specs.Prelude.{ℕ, ◌+◌, ◌-◌, ◌==◌, nat_lt, if◌then◌else◌, List, [], ◌∷◌, take, drop, slice_index, Option, Some, None}
-use Rattle.std.specs.Int.{w32, w64, from_be_bytes}
+use Rattle.std.specs.Prelude.{ℕ, zero, suc, ◌+◌, ◌-◌, ◌/◌, ◌%◌, ◌==◌, Bool, nat_lt, if◌then◌else◌, List, [], ◌∷◌, take, drop, slice_index, Option, Some, None}
+use Rattle.std.specs.Int.{w16, w32, w64, from_be_bytes}
 use Rattle.gd_base.specs.declared.condition.Condition.{Condition}
 use Rattle.gd_base.specs.declared.game.Game.{Game}
 use Rattle.gd_base.specs.declared.refusal.Refusal.{Refusal}
 use Rattle.gd_base.specs.declared.refusal.Reply.{Reply}
+use Rattle.gd_base.specs.declared.layout.TheConstants.{KEPT_LEN}
 use Rattle.gd_base.specs.declared.payout.Handpay.{Handpay}
+use Rattle.gd_base.specs.declared.payout.Order.{Order}
+use Rattle.gd_base.specs.declared.payout.OrderKind.{OrderKind}
 use Rattle.gd_base.specs.declared.play.PlayRecord.{PlayRecord}
+use Rattle.gd_base.specs.declared.records.BillRecord.{BillRecord}
+use Rattle.gd_base.specs.declared.records.EventRecord.{EventRecord}
+use Rattle.gd_base.specs.declared.records.VoucherRecord.{VoucherRecord}
+
+-- so many places of a payload, from a place on
+abbrev pub part : ℕ → ℕ → List ℕ → List ℕ
+part place size payload = take size (drop place payload)
 
 -- the number in the eight bytes at a place
 unfoldable pub number_at : ℕ → List ℕ → ℕ
@@ -15,6 +25,10 @@ number_at place payload = from_be_bytes w64 (take 8 (drop place payload))
 -- and in the four bytes
 unfoldable pub short_at : ℕ → List ℕ → ℕ
 short_at place payload = from_be_bytes w32 (take 4 (drop place payload))
+
+-- and in two
+unfoldable pub two_at : ℕ → List ℕ → ℕ
+two_at place payload = from_be_bytes w16 (take 2 (drop place payload))
 
 -- sixteen numbers in a row
 abbrev pub sixteen_at : ℕ → List ℕ → List ℕ
@@ -69,11 +83,29 @@ abbrev pub kept_read : ℕ → List ℕ → ℕ × Option Reply
 kept_read place payload =
     (number_at place payload, reply_of (slice_index payload (place + 8)) (slice_index payload (place + 9)) (slice_index payload (place + 10)))
 
+-- those of so many devices, one after the other
+abbrev pub kept_reads : ℕ → ℕ → List ℕ → List (ℕ × Option Reply)
+kept_reads zero place payload = []
+kept_reads (suc n) place payload = kept_read place payload ∷ kept_reads n (place + KEPT_LEN) payload
+
+-- ================ flags, the open handpay and the open order
+
+-- so many bits of a number, the lowest first
+abbrev pub flags_of : ℕ → ℕ → List Bool
+flags_of zero bits = []
+flags_of (suc n) bits = (bits % 2 == 1) ∷ flags_of n (bits / 2)
+
 -- the open handpay, at a place; a kind that none has is read as some one
 abbrev pub handpay_read : ℕ → List ℕ → Option Handpay
 handpay_read place payload =
     if slice_index payload place == 0 then None
     else Some (record { win = slice_index payload place == 1; amount = number_at (place + 2) payload })
+
+-- the open order of a kind, with its number and its amount; a kind that none has is read as some one
+abbrev pub order_of : (kind number amount : ℕ) → Option Order
+order_of kind number amount =
+    if kind == 0 then None
+    else Some (record { number = number; kind = if kind == 1 then OrderKind.Printer else OrderKind.Hopper; amount = amount })
 
 -- ================ the record of a play
 
@@ -104,3 +136,19 @@ play_read place payload = record {
 -- a play behind a byte that isn't 0, or none
 abbrev pub open_read : ℕ → List ℕ → Option PlayRecord
 open_read place payload = if slice_index payload place == 0 then None else Some (play_read (place + 1) payload)
+
+-- ================ records of the lists, and so many of them
+
+abbrev pub event_read : List ℕ → EventRecord
+event_read bytes = record { place = number_at 0 bytes; code = slice_index bytes 8; detail = number_at 9 bytes }
+
+abbrev pub bill_read : List ℕ → BillRecord
+bill_read bytes = record { place = number_at 0 bytes; value = short_at 8 bytes }
+
+abbrev pub voucher_read : List ℕ → VoucherRecord
+voucher_read bytes = record { place = number_at 0 bytes; kind = slice_index bytes 8; id = number_at 9 bytes; value = short_at 17 bytes }
+
+-- so many records of a size, one after the other
+abbrev pub records_in : {A : Type 0} → (List ℕ → A) → ℕ → ℕ → List ℕ → List A
+records_in read size zero row = []
+records_in read size (suc n) row = read (take size row) ∷ records_in read size n (drop size row)

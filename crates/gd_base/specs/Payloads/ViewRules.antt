@@ -1,5 +1,5 @@
--- Which view a payload spells: the one whose payload it is, where that view keeps the rules of a view.
-use Rattle.std.specs.Prelude.{◌≡◌, ◌≢◌, ℕ, ◌+◌, ◌*◌, ◌%◌, ◌^◌, Bool, true, not, ◌&&◌, ◌||◌, ◌==◌, IsTrue, nat_le, nat_lt, is_some, is_none, if◌then◌else◌, List, [], ◌∷◌, length, map, sum, drop, slice_index, Option, Some, None}
+-- The rules of a view: those that no setup changes, and those that name the setup.
+use Rattle.std.specs.Prelude.{ℕ, ◌+◌, ◌*◌, ◌%◌, ◌^◌, Bool, true, not, ◌&&◌, ◌||◌, ◌==◌, nat_le, nat_lt, is_some, is_none, if◌then◌else◌, List, [], ◌∷◌, length, map, sum, drop, slice_index, Option, Some, None}
 use Rattle.std.specs.List.{list_all}
 use Rattle.gd_base.specs.declared.limits.TheConstants.{MOST_AMOUNT, MOST_ENTRIES, MOST_HOLD, MOST_PICK, MOST_TURNS}
 use Rattle.gd_base.specs.declared.records.TheConstants.{PLAYS_KEPT, EVENTS_KEPT, BILLS_KEPT, VOUCHERS_KEPT}
@@ -16,10 +16,8 @@ use Rattle.gd_base.specs.declared.records.VoucherRecord.{VoucherRecord}
 use Rattle.gd_base.specs.declared.setup.Setup.{Setup}
 use Rattle.gd_base.specs.Histories.Credit.{order_amount, wager}
 use Rattle.gd_base.specs.Histories.Meters.{handpay_amount}
-use Rattle.gd_base.specs.Payloads.Bytes.{payload_of}
 use Rattle.gd_base.specs.Histories.Rounds.{choices_of}
 use Rattle.gd_base.specs.Games.Stage.{stage, is_bet, is_stage, are_choices}
-use Rattle.gd_base.specs.Payloads.Spelled.{Spelled, Shows, Foreign, Unreadable}
 use Rattle.gd_base.specs.Histories.View.{View}
 
 -- ================ the sums
@@ -175,27 +173,3 @@ setup_rules setup v =
 
 abbrev pub is_possible_under : Setup → View → Bool
 is_possible_under setup v = all_true (setup_rules setup v)
-
--- ================ what a payload spells
-
--- the payload is that of this view
-abbrev pub Spells : List ℕ → View → Type 0
-Spells payload v = IsTrue (is_possible v) × (payload ≡ payload_of v)
-
--- it is a view of this setup, whose digest is given
-abbrev pub SpellsUnder : Setup → List ℕ → List ℕ → View → Type 0
-SpellsUnder setup digest payload v = Spells payload v × (v.digest ≡ digest) × IsTrue (is_possible_under setup v)
-
--- it is a view of another setup
-abbrev pub SpellsForeign : List ℕ → List ℕ → View → Type 0
-SpellsForeign digest payload v = Spells payload v × (v.digest ≢ digest)
-
--- What the payload spells to a machine of this setup, of the views that pass a test. All others are unreadable.
-abbrev pub SpelledIf : (View → Bool) → Setup → List ℕ → List ℕ → Spelled View → Type 0
-SpelledIf is_built setup digest payload (Shows v) = SpellsUnder setup digest payload v × IsTrue (is_built v)
-SpelledIf is_built setup digest payload (Foreign kept) = (v : View) × SpellsForeign digest payload v × IsTrue (is_built v) × (v.digest ≡ kept)
-SpelledIf is_built setup digest payload Unreadable =
-    (v : View) → IsTrue (is_built v) → (SpellsUnder setup digest payload v → ⊥) × (SpellsForeign digest payload v → ⊥)
-
-abbrev pub SpelledAs : Setup → List ℕ → List ℕ → Spelled View → Type 0
-SpelledAs = SpelledIf (λ v. true)

@@ -26,7 +26,7 @@ use Rattle.gd_base.proofs.PayloadLemmas.Itself.{play_itself}
 use Rattle.gd_base.proofs.BoolTests.{both, all_told, at_most, is_so}
 use Rattle.gd_base.proofs.SoFarLemmas.Rules.{IsCounted, IsKeptPlay, counted, counts_at, reels_only}
 use Rattle.gd_base.proofs.SoFarLemmas.Steps.{IsOfRound, effect_refused, effect_bill, effect_start, effect_play, effect_pick, effect_take, view_moved, still_open}
-use Rattle.gd_base.proofs.HistoryLemmas.Wins.{most_win}
+use Rattle.gd_base.proofs.StageLemmas.MostWin.{most_win}
 use Rattle.gd_play.specs.Judging.{asks_for, refusal, judgement}
 use Rattle.gd_play.specs.Moving.{open_stage_of, play_with_round, play_after, stage_after}
 use Rattle.gd_top.specs.declared.first_core.books.Books.{Books}
@@ -80,7 +80,7 @@ stage_small setup p choice k =
     let same : (stage setup p.game p.bet p.words (record { choice = choice; turns = p.turns; colours = p.colours })).win
     ≡ (stage setup Game.Reels p.bet p.words (record { choice = choice; turns = 0; colours = p.colours })).win =
     λ x. (stage setup (k.game x) p.bet p.words (record { choice = choice; turns = k.turns x; colours = p.colours })).win in
-    let le = most_win setup p.bet p.words choice p.colours k.bet in
+    let le = most_win setup Game.Reels p.bet p.words (record { choice = choice; turns = 0; colours = p.colours }) k.bet refl in
     omega (arith, same, le)
 
 pub fresh_plain : (p : PlayRecord) → is_fresh p ≡ true → IsPlainPlay p

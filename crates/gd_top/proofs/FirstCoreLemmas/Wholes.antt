@@ -28,9 +28,10 @@ use Rattle.gd_base.specs.Histories.View.{View}
 use Rattle.gd_base.proofs.BooksLemmas.LegalBooks.{AreNone, told, not_held}
 use Rattle.gd_base.proofs.BoolTests.{both, at_most}
 use Rattle.gd_base.proofs.SoFarLemmas.Bytes.{spelled_back}
-use Rattle.gd_base.proofs.SoFarLemmas.Rules.{IsCounted, IsKeptPlay, counted, whole_of, counts_at, counted_refused, counted_bill, counted_start, counted_open, counted_chosen, counted_ended, counted_ended_at_once, begun_kept, chosen_kept, bill_small}
+use Rattle.gd_base.proofs.SoFarLemmas.Rules.{IsCounted, IsKeptPlay, counted, whole_of, counts_at, counted_refused, counted_bill, counted_start, counted_open, counted_chosen, counted_ended, counted_ended_at_once, begun_kept, chosen_kept}
+use Rattle.gd_base.proofs.BooksLemmas.Enabled.{bill_small}
 use Rattle.gd_base.proofs.SoFarLemmas.Steps.{effect_refused, effect_bill, effect_start, effect_play, effect_pick, effect_take, view_moved, still_open}
-use Rattle.gd_base.proofs.HistoryLemmas.Wins.{most_win}
+use Rattle.gd_base.proofs.StageLemmas.MostWin.{most_win}
 use Rattle.gd_play.proofs.Fresh.{first_asked}
 use Rattle.gd_top.specs.declared.first_core.books.Books.{Books}
 use Rattle.gd_top.specs.FirstCore.Books.{AreWords, view_of}
@@ -77,7 +78,7 @@ begun_whole setup b bet d true k room covered good index words over =
     let event = Event.Play Game.Reels bet in
     let r = new_round (b.count + 1) (Some d) Game.Reels bet in
     let most = at_most bet 9 (both (nat_le 1 bet) (nat_le bet 9) good).1 in
-    let small : (round_stage setup r).win ≤ 100000000 = let le = most_win setup bet d.1 None 0 most in omega (arith, le) in
+    let small : (round_stage setup r).win ≤ 100000000 = let le = most_win setup Game.Reels bet d.1 r.choices most refl in omega (arith, le) in
     whole_by setup _ _ _ None _ _ (counted_ended_at_once setup b.count b.balance (wager setup bet) (round_stage setup r).win b.totals None b.kept event Reply.Taken k room covered small)
 begun_whole setup b bet d false k room covered good index words over =
     let event = Event.Play Game.Reels bet in

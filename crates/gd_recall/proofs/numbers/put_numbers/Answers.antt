@@ -1,7 +1,8 @@
 use Rattle.std.proofs.Common.{◌∙◌, ap, ◌+◌, ◌*◌, ◌<◌, List, ℕ, get_or, length, arith}
 use Rattle.gd_base.specs.Payloads.Bytes.{eight}
 use Rattle.gd_recall.specs.Pieces.{put_at}
-use Rattle.gd_recall.proofs.PutPieces.{eight_long, row_more}
+use Rattle.gd_base.proofs.PayloadLemmas.Lengths.{eight_long}
+use Rattle.gd_recall.proofs.PutPieces.{row_more}
 use Rattle.gd_recall.proofs.numbers.put_numbers.Goals as goal
 
 pub loop-i-preserved : goal.loop-i-preserved

@@ -1,6 +1,6 @@
 use Rattle.std.proofs.Common.{◌≡◌, ◌∙◌, ap, ℕ, ◌+◌, ◌-◌, ◌<◌, [], ◌∷◌, ◌++◌, length, take, drop, length-append, arith}
 use Rattle.circular_buffer.specs.Buffer.{Buffer}
-use Rattle.gd_recall.specs.InPayload.{records_in}
+use Rattle.gd_base.specs.Payloads.Reading.{records_in}
 use Rattle.gd_recall.proofs.RowSteps.{read_step, room_left, kept_all}
 use Rattle.gd_recall.proofs.rows.read_row.Goals as goal
 

@@ -1,5 +1,5 @@
 use Rattle.std.proofs.Common.{◌≡◌, ◌≤◌, ◌-◌, ◌*◌, ◌++◌, length}
-use Rattle.gd_recall.specs.InPayload.{records_in}
+use Rattle.gd_base.specs.Payloads.Reading.{records_in}
 use Rattle.gd_recall.proofs.rows.read_row.Given as goal
 
 abbrev pub invariant-loop : goal.invariant-loop

@@ -1,7 +1,7 @@
 use Rattle.std.proofs.Common.{◌∙◌, sym}
-use Rattle.gd_recall.specs.InPayload.{stand_in}
-use Rattle.gd_recall.specs.Recorded.{are_recorded}
-use Rattle.gd_recall.proofs.Loading.{second_of, not_first}
+use Rattle.gd_base.specs.Payloads.ListsIn.{stand_in}
+use Rattle.gd_base.specs.Payloads.Recorded.{are_recorded}
+use Rattle.gd_base.proofs.BoolTests.{second_of, not_first}
 use Rattle.gd_recall.proofs.recall.Recall.is_listed_in.Goals as goal
 
 pub returns-then-are_recorded : goal.returns-then-are_recorded

@@ -1,6 +1,6 @@
 use Rattle.std.proofs.Common.{◌∙◌, ap, sym, Option, is_some, unwrap_or, true, false}
-use Rattle.gd_recall.specs.Lists.{Lists, no_lists}
-use Rattle.gd_recall.proofs.Loading.{told}
+use Rattle.gd_base.specs.Payloads.Lists.{Lists, no_lists}
+use Rattle.gd_base.proofs.PayloadLemmas.ListsHad.{told}
 use Rattle.gd_recall.proofs.recall.Recall.load.Goals as goal
 
 pub returns-then-is_listed_in-clause-answer : goal.returns-then-is_listed_in-clause-answer

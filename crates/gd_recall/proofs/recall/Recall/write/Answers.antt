@@ -1,10 +1,9 @@
 use Rattle.std.proofs.Common.{rules, ◌≡◌, ◌∙◌, ap, sym, ℕ, ◌+◌, ◌-◌, List, ◌++◌, length, take, drop, arith}
 use Rattle.std.proofs.lemmas.List.{length-take-le, length-drop}
-use Rattle.gd_base.specs.declared.layout.TheConstants.{LISTS_AT, PLAYS_AT, PLAYS_LEN, EVENTS_LEN, BILLS_LEN, VOUCHERS_LEN, REST_LEN}
+use Rattle.gd_base.specs.declared.layout.TheConstants.{LISTS_AT, LISTS_LEN, PLAYS_AT, PLAYS_LEN, EVENTS_LEN, BILLS_LEN, VOUCHERS_LEN, REST_LEN}
 use Rattle.gd_base.specs.Payloads.Bytes.{play_bytes, event_bytes, bill_bytes, voucher_bytes}
-use Rattle.gd_recall.specs.declared.layout.TheConstants.{LISTS_LEN}
-use Rattle.gd_recall.specs.InPayload.{row_of}
-use Rattle.gd_recall.proofs.Parts.{head_long, numbers_part, outside_is, plays_part, events_part, bills_part, vouchers_part, taken_apart}
+use Rattle.gd_base.specs.Payloads.ListsIn.{row_of}
+use Rattle.gd_base.proofs.PayloadLemmas.Parts.{head_long, numbers_part, outside_is, plays_part, events_part, bills_part, vouchers_part, taken_apart}
 use Rattle.gd_recall.proofs.recall.Recall.write.Goals as goal
 
 pub returns-clause-stand : goal.returns-clause-stand
@@ -37,10 +36,10 @@ returns-clause-stand c =
     let is_head = head_long a n b (p ++ (e ++ (bs ++ v))) la ln lb in
     record {
       numbers = numbers_part a n b (p ++ (e ++ (bs ++ v))) la ln lb ∙ c.copy_from_slice.ensures.after ∙ c.numbers_image.ensures;
-      plays = plays_part (a ++ (n ++ b)) p e bs v is_head lp le lbs lv ∙ c.write_row.ensures ∙ (λ j. row_of play_bytes (plays_len j) (is_plays j));
-      events = events_part (a ++ (n ++ b)) p e bs v is_head lp le lbs lv ∙ c.write_row-2.ensures ∙ (λ j. row_of event_bytes (events_len j) (is_events j));
-      bills = bills_part (a ++ (n ++ b)) p e bs v is_head lp le lbs lv ∙ c.write_row-3.ensures ∙ (λ j. row_of bill_bytes (bills_len j) (is_bills j));
-      vouchers = vouchers_part (a ++ (n ++ b)) p e bs v is_head lp le lbs lv ∙ c.write_row-4.ensures ∙ (λ j. row_of voucher_bytes (vouchers_len j) (is_vouchers j));
+      plays = plays_part (a ++ (n ++ b)) p e bs v is_head lp le lbs ∙ c.write_row.ensures ∙ (λ j. row_of play_bytes (plays_len j) (is_plays j));
+      events = events_part (a ++ (n ++ b)) p e bs v is_head lp le lbs ∙ c.write_row-2.ensures ∙ (λ j. row_of event_bytes (events_len j) (is_events j));
+      bills = bills_part (a ++ (n ++ b)) p e bs v is_head lp le lbs ∙ c.write_row-3.ensures ∙ (λ j. row_of bill_bytes (bills_len j) (is_bills j));
+      vouchers = vouchers_part (a ++ (n ++ b)) p e bs v is_head lp le lbs ∙ c.write_row-4.ensures ∙ (λ j. row_of voucher_bytes (vouchers_len j) (is_vouchers j));
     }
 
 pub returns-clause-others : goal.returns-clause-others

@@ -1,4 +1,4 @@
-use Rattle.gd_recall.proofs.Loading.{has_them}
+use Rattle.gd_base.proofs.PayloadLemmas.ListsHad.{has_them}
 use Rattle.gd_recall.proofs.recall.Recall.write_image.Goals as goal
 
 pub returns-clause-lists : goal.returns-clause-lists
