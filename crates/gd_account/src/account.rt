@@ -175,6 +175,13 @@ impl Account {
         self.totals[m.place()]
     }
 
+    /// The whole totals of the sixteen meters, in their order.
+    pub fn totals(&self) -> &[u64; 16]
+        ensures { result.now ≡ self.now.totals }
+    {
+        &self.totals
+    }
+
     /// Takes money in at a meter, where its value is enabled and the balance doesn't pass the credit limit.
     fn take_in(
         &mut self,

@@ -1,0 +1,4 @@
+mod Empty
+mod Kept
+mod Lists
+mod Turns
