@@ -9,9 +9,9 @@ use Rattle.gd_base.specs.Payloads.ViewRules.{setup_rules, view_rules}
 use Rattle.gd_base.proofs.BoolTests.{all_hold, is_below, is_equal}
 use Rattle.gd_machine.specs.Words.{IsWhole}
 
-pub each_below : (xs : List ℕ) → ((i : ℕ) → get_or xs i 0 < 256) → list_all (λ b. nat_lt b 256) xs ≡ true
-each_below [] f = refl
-each_below (x ∷ xs) f = both_hold (nat_lt x 256) (list_all (λ b. nat_lt b 256) xs) (is_below x 256 (f 0)) (each_below xs (λ i. f (suc i)))
+pub each_below : (most : ℕ) (xs : List ℕ) → ((i : ℕ) → get_or xs i 0 < most) → list_all (λ n. nat_lt n most) xs ≡ true
+each_below most [] f = refl
+each_below most (x ∷ xs) f = both_hold (nat_lt x most) (list_all (λ n. nat_lt n most) xs) (is_below x most (f 0)) (each_below most xs (λ i. f (suc i)))
 
 empty_whole : (setup : Setup) (digest : List ℕ) → length digest ≡ 32 → list_all (λ b. nat_lt b 256) digest ≡ true → IsWhole setup (empty_view digest)
 empty_whole setup digest long bytes =

@@ -1,1 +1,5 @@
 pub mod Words
+pub mod Meaning
+pub mod Acts
+pub mod Restoring
+pub mod Settling

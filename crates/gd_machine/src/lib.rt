@@ -1,10 +1,14 @@
-//! The machine: its parts put together, and its texts. docs/FORMATS.md has each text.
+//! The machine: its parts put together, what each event makes of them, and its texts. docs/DEFINITIONS.md says how an
+//! event is judged and what it does, docs/FORMATS.md has each text.
 #![tactic(auto)]
 
 mod games;
+pub mod laws;
 mod machine;
+mod parts;
 #[cfg(test)]
 mod tests;
 mod texts;
 
 pub use machine::Machine;
+pub use parts::MachineParts;

@@ -5,10 +5,21 @@ ghost use Rattle.std.specs.List.{list_all};
 ghost use Rattle.gd_base.specs.Histories.Devices.{kept_at};
 ghost use Rattle.gd_base.specs.Histories.Numbers.{device_place};
 ghost use Rattle.gd_base.specs.Histories.ViewOf.{empty_view};
+ghost use Rattle.gd_base.specs.Payloads.Lists.{lists_of};
 ghost use Rattle.gd_games.specs.Digest.{digest_of};
-ghost use Rattle.gd_play.specs.PlayMachine.{play_machine_table};
+ghost use Rattle.gd_play.specs.Moving.{open_stage_of};
+ghost use Rattle.gd_play.specs.PlayMachine.{play_machine_play, play_machine_stage, play_machine_table};
 
+mod conditions;
+mod judging;
+mod money;
+mod noting;
+mod paying;
+mod playing;
+mod restoring;
+mod settling;
 mod showing;
+mod stepping;
 
 use crate::games::Games;
 use gd_account::{Account, AccountParts};
@@ -35,6 +46,7 @@ pub struct Machine {
     recall: Recall,
     ghost has_digest: { digest ≡ digest_of setup },
     ghost has_table: { (play_machine_table plays).setup ≡ setup },
+    ghost has_stage: { play_machine_stage plays ≡ open_stage_of setup (play_machine_play plays) },
 }
 
 impl Machine {
@@ -78,6 +90,13 @@ impl Machine {
         self.recall.clear();
     }
 
+    /// Its setup.
+    pub fn setup(&self) -> &Setup
+        ensures { result.now ≡ machine_setup self.now }
+    {
+        &self.setup
+    }
+
     /// The digest of its setup.
     pub fn digest(&self) -> &[u8; 32]
         ensures { result.now ≡ digest_of (machine_setup self.now) }
@@ -92,6 +111,38 @@ impl Machine {
         self.count
     }
 
+    /// The balance and the meters.
+    pub fn account(&self) -> &Account
+        ensures balance { result.now.balance ≡ (machine_view self.now).balance }
+        ensures totals { result.now.totals ≡ (machine_view self.now).totals }
+    {
+        &self.account
+    }
+
+    /// What is to be paid out.
+    pub fn payout(&self) -> &Payout
+        ensures orders { result.now.orders ≡ (machine_view self.now).orders }
+        ensures order { result.now.order ≡ (machine_view self.now).order }
+        ensures handpay { result.now.handpay ≡ (machine_view self.now).handpay }
+    {
+        &self.payout
+    }
+
+    /// Which doors are open and which tilts stand.
+    pub fn conditions(&self) -> &Conditions
+        ensures doors { result.now.doors ≡ (machine_view self.now).doors }
+        ensures tilts { result.now.tilts ≡ (machine_view self.now).tilts }
+    {
+        &self.conditions
+    }
+
+    /// What is recalled.
+    pub fn recall(&self) -> &Recall
+        ensures { result.now.lists ≡ lists_of (machine_view self.now) }
+    {
+        &self.recall
+    }
+
     /// The play that is open, if there is one.
     pub fn open_play(&self) -> Option<&PlayRecord>
         ensures { option_copied result ≡ (machine_view self.now).play }
@@ -104,6 +155,13 @@ impl Machine {
         ensures { result ≡ kept_at (machine_view self.now).kept (device_place device) }
     {
         self.kept[device.place()]
+    }
+
+    /// Each device's last number, and the reply to it, in the order of the devices.
+    pub fn all_kept(&self) -> &[(u64, Option<Reply>); 9]
+        ensures { result.now ≡ (machine_view self.now).kept }
+    {
+        &self.kept
     }
 }
 
@@ -121,7 +179,7 @@ fn digest_fits(digest: &[u8; 32])
 }
 
 /// An account without money.
-fn no_money() -> Account
+pub(crate) fn no_money() -> Account
     ensures { result ≡ record { balance = 0; totals = replicate 16 0 } }
 {
     Account::from_parts(AccountParts {

@@ -1,7 +1,14 @@
-//! What no clause says: texts against those of worked plays, which were written out by hand, and of the empty machine.
+//! What no clause says: texts against those of worked plays, which were written out by hand, and of the empty machine;
+//! and below it histories that were worked out by hand, event by event.
 
 ghost use Rattle.std.specs.Prelude.{IsTrue};
 ghost use Rattle.gd_base.specs.Payloads.ViewRules.{is_play_record};
+
+mod money;
+mod paying;
+mod playing;
+mod restoring;
+mod tested;
 
 use crate::Machine;
 use crate::texts::plays::push_ended;

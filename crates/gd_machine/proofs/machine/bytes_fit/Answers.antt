@@ -3,4 +3,4 @@ use Rattle.gd_machine.proofs.Empty.{each_below}
 use Rattle.gd_machine.proofs.machine.bytes_fit.Goals as goal
 
 pub returns : goal.returns
-returns c = each_below c.args.bytes.now (λ i. omega (arith, c.type_inv.bytes i))
+returns c = each_below 256 c.args.bytes.now (λ i. omega (arith, c.type_inv.bytes i))

@@ -1,0 +1,46 @@
+use Rattle.std.proofs.Common.{◌∙◌, sym, None, [], ◌∷◌}
+use Rattle.gd_base.proofs.Effects.Money.{effect_bill}
+use Rattle.gd_base.specs.declared.event.Event.{Event}
+use Rattle.gd_machine.proofs.Acted.{acted_by}
+use Rattle.gd_machine.proofs.Refusals.{refused_on, told_on}
+use Rattle.gd_machine.proofs.Wholes.{facts_of}
+use Rattle.gd_machine.specs.Words.{machine_setup, machine_view}
+use Rattle.std.proofs.lemmas.Result.{err_from_is_err_and}
+use Rattle.gd_base.specs.Judging.Rule.{while_locked, while_ordered}
+use Rattle.gd_base.specs.declared.meter.Meter.{Meter}
+use Rattle.gd_machine.proofs.machine.Machine.take_bill.Goals as goal
+
+pub returns-in_err-check_free-clause-answer : goal.returns-in_err-check_free-clause-answer
+returns-in_err-check_free-clause-answer c =
+    let v = machine_view c.args.self.now in
+    refused_on (while_locked v ∷ while_ordered v ∷ []) _ c.from_residual.result c.in_err-check_free.field-0.0 (err_from_is_err_and c.from_residual.result c.from_residual.ensures.1) c.in_err-check_free.ensures
+
+pub take_bill-requires-clause-balance : goal.take_bill-requires-clause-balance
+take_bill-requires-clause-balance c =
+    let setup = machine_setup c.args.self.now in
+    let v = machine_view c.args.self.now in
+    let f = facts_of setup v c.requires.whole in
+    f.balance
+
+pub take_bill-requires-clause-total : goal.take_bill-requires-clause-total
+take_bill-requires-clause-total c =
+    let setup = machine_setup c.args.self.now in
+    let v = machine_view c.args.self.now in
+    let f = facts_of setup v c.requires.whole in
+    f.totals Meter.BillIn
+
+pub returns-in_err-take_bill-clause-answer : goal.returns-in_err-take_bill-clause-answer
+returns-in_err-take_bill-clause-answer c =
+    let v = machine_view c.args.self.now in
+    told_on (while_locked v ∷ while_ordered v ∷ []) _ c.from_residual-in_err-take_bill.result c.in_err-take_bill.field-0.0 (sym c.check_free.ensures ∙ c.in_ok-check_free.was)
+    (err_from_is_err_and c.from_residual-in_err-take_bill.result c.from_residual-in_err-take_bill.ensures.1) c.in_err-take_bill.ensures.answer
+
+pub returns-clause-view : goal.returns-clause-view
+returns-clause-view c =
+    let setup = machine_setup c.args.self.now in
+    let v = machine_view c.args.self.now in
+    let f = facts_of setup v c.requires.whole in
+    let A = c.in_ok-take_bill.ensures.money in
+    let L = c.note_bill.ensures.lists in
+    (λ x. record v { balance = (A x).balance; totals = (A x).totals; plays = (L x).plays; events = (L x).events; bills = (L x).bills; vouchers = (L x).vouchers })
+    ∙ acted_by setup v (Event.Bill c.args.value) None _ (effect_bill setup v f.itself 0 None c.args.value)
