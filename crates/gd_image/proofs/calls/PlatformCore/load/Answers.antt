@@ -1,0 +1,6 @@
+use Rattle.std.proofs.Common.{ap}
+use Rattle.gd_machine.specs.Meaning.{the_machine}
+use Rattle.gd_image.proofs.calls.PlatformCore.load.Goals as goal
+
+pub returns-clause-same : goal.returns-clause-same
+returns-clause-same c = ap the_machine c.load_machine.ensures.setup

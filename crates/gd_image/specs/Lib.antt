@@ -1,0 +1,5 @@
+pub mod Outside
+pub mod Read
+pub mod Places
+pub mod Plays
+pub mod Words
