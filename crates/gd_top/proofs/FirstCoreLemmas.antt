@@ -8,4 +8,3 @@ pub mod PlayLines
 pub mod Loaded
 pub mod Spelling
 pub mod Wholes
-pub mod Apart

@@ -11,4 +11,6 @@ pub enum Halt {
     DiskFault,
     /// The output failed.
     WriteFault,
+    /// The memory was made under another setup.
+    SetupDiffers,
 }

@@ -136,6 +136,11 @@ fn carry_out<S: Source, K: Sink>(
         ended.falls.items
         (outer S.left S.faults K.taken K.faults lab_state input.old output.old lab)
         (outer S.left S.faults K.taken K.faults lab_state input.new output.new ended.lab)) }
+    ensures differs { IfOk result (λ ended. ended.status ≡ Status.SetupDiffers → (lab : MemoryLab)
+        × WroteReport (machine_so_far built_in_setup) (seeded_block 1) Status.SetupDiffers
+        ended.falls.items
+        (outer S.left S.faults K.taken K.faults lab_state input.old output.old lab)
+        (outer S.left S.faults K.taken K.faults lab_state input.new output.new ended.lab)) }
     ensures usage { IfOk result (λ ended. ended.status ≡ Status.Usage
         → (is_trial (drop 1 all.now) ≡ false) × Appends (K.taken output.old)
         (K.taken output.new) usage_text) }

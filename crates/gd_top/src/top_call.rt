@@ -175,6 +175,12 @@ pub fn cabinet<S: Source, C: Source, K: Sink, L: LabDisk, D: Disk, W: Draws>(
     // 9: nothing was made.
     ensures no_memory { result.status ≡ Status.OutOfMemory → Appends (K.taken output.old)
         (K.taken output.new) no_memory_text }
+    // 11: the report up to the opening that found a memory of another setup, which is as it was found.
+    ensures differs { result.status ≡ Status.SetupDiffers
+        → WroteReport (machine_so_far built_in_setup) (W.block_of draws) Status.SetupDiffers
+        result.falls.items
+        (outer S.left S.faults K.taken K.faults L.state input.old output.old lab)
+        (outer S.left S.faults K.taken K.faults L.state input.new output.new result.lab) }
     ensures unopened { IsUnopened result.status → (result.lab ≡ lab) × (result.draws ≡ draws)
         × (input.new ≡ input.old) }
     // 3, 4 and 5 come only where a count of what failed rose.

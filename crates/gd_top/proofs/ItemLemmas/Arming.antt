@@ -2,7 +2,7 @@
 use Rattle.std.proofs.Common.{◌≡◌, ◌∙◌, ap, sym, subst, refl, ℕ, ◌+◌, ◌≤◌, nat_le, Bool, true, false, List, [], ◌∷◌, ◌++◌, length, length-append, map, arith, codes, Option, Some, Result, Err, OnErr}
 use Rattle.std.proofs.lemmas.Bool.Decides.{nat_tests}
 use Rattle.gd_base.specs.Judging.Machine.{Machine}
-use Rattle.gd_base.specs.Laws.TellsViews.{HasPayload}
+use Rattle.gd_base.specs.Laws.TellsViews.{HasPayload, TellsViews}
 use Rattle.gd_base.specs.Outside.Causes.{Rose}
 use Rattle.gd_cabinet.specs.Shown.{IsInBoth}
 use Rattle.gd_disk.specs.Disk.{DiskState, KeepsCounts, Loses, Unchanged}
@@ -15,7 +15,7 @@ use Rattle.gd_store.specs.Masks.{Mask}
 use Rattle.gd_store.specs.declared.copy.layout.TheConstants.{LAYOUT}
 use Rattle.gd_top.specs.Claims.MemoryLeft.{IsLeftIn, IsMasked}
 use Rattle.gd_top.specs.Code.Falls.{AreWaiting, IsWaiting, counts_calls}
-use Rattle.gd_top.specs.Code.Memory.{Moment, Does, Fits, IsKnownIn, Sits, TellsApart, begun, outside}
+use Rattle.gd_top.specs.Code.Memory.{Moment, Does, Fits, IsKnownIn, Sits, begun, outside}
 use Rattle.gd_top.specs.Code.Parts.{GivesText}
 use Rattle.gd_top.specs.Code.Standing.{Standing}
 use Rattle.gd_top.specs.Run.Items.{item_meaning}
@@ -86,6 +86,7 @@ pub record ArmsOne {V : Type 0} (cut : ArmedCut) (was now : Moment V) : Type 0 w
   pub lines : now.counts.lines ≡ was.counts.lines
   pub power_ons : now.counts.power_ons ≡ was.counts.power_ons
   pub laps : now.counts.lap ≡ was.counts.lap
+  pub given : now.counts.given ≡ was.counts.given
   pub offers : now.counts.offers ≡ was.counts.offers
   pub falls : now.counts.falls.items ≡ was.counts.falls.items
   pub calls : now.counts.calls.items ≡ was.counts.calls.items ++ counts_calls cut.unit ∷ []
@@ -135,7 +136,8 @@ module _ {V : Type 0} (cut : ArmedCut) (was : Moment V) where
 
     arm_sits : Sits was → 1 ≤ cut.count → nat_le MOST_POWER_ONS (was.counts.power_ons + length was.counts.calls.items) ≡ false → Sits now
     arm_sits sits one test = record {
-      tells = subst TellsApart (sym arms.machine) sits.tells;
+      tells = subst TellsViews (sym arms.machine) sits.tells;
+      given = arms.given ∙ sits.given ∙ ap (λ (O : Machine V). O.digest) (sym arms.machine);
       size = arms.kept.size ∙ sits.size;
       power = arms.power ∙ sits.power ∙ ap is_powered (sym arms.phase);
       runs = arms.stopped ∙ sits.runs;

@@ -33,7 +33,7 @@ use Rattle.gd_top.specs.declared.halt.Halt.{Halt}
 use Rattle.gd_top.specs.declared.item.opening.Opened.{Opened}
 use Rattle.gd_top.proofs.LineLemmas.Alike.{alike_by}
 use Rattle.gd_top.proofs.RunLemmas.Equations.{clear_is, no_start}
-use Rattle.gd_top.proofs.RunLemmas.Parts.{broken_then, pending_then, then_by, unwritten_then}
+use Rattle.gd_top.proofs.RunLemmas.Parts.{broken_then, differing_then, pending_then, then_by, unwritten_then}
 use Rattle.gd_top.proofs.RunLemmas.Said.{ends_nowhere, found_none, err_is, moves_not, moves_on, stops_here}
 use Rattle.gd_top.proofs.RunLemmas.Cuts.{armed_faulted, armed_used, armed_whole, falls_are}
 use Rattle.gd_top.proofs.RunLemmas.OffersAt.{after_fall, after_offer, fall_moves}
@@ -119,6 +119,8 @@ module _ {V : Type 0} (was mid : Moment V) where
       (t, (λ serves. absurd serves), broken_then mid.machine tell (power_on mid.machine mid.blocks flight Done) s t (outside was) (outside mid) (outside now) now.disk p k)
   opened_carries (Err Halt.WriteFault) now flight tell s t stop read powered p k =
       (t, (λ serves. absurd serves), unwritten_then mid.machine tell (power_on mid.machine mid.blocks flight Done) s t (outside was) (outside mid) (outside now) now.disk p k)
+  opened_carries (Err Halt.SetupDiffers) now flight tell s t stop read powered p k =
+      (k.0, (λ serves. absurd serves), differing_then mid.machine tell (power_on mid.machine mid.blocks flight Done) s t k.0 (outside was) (outside mid) (outside now) now.disk p k.1)
 
   -- a part behind which openings follow
   pub opened_by : (tell : Machine V → Blocks → State V → Part V) (r : Result (Unit {0}) Halt) (now : Moment V)
@@ -500,30 +502,33 @@ module _ {V : Type 0} where
               (pending_alike was.machine down.machine was.blocks down.blocks opening_rest (λ M B s. power_on M B q.0 Done s) k.0 q.2 (outside down) (outside now) comes.machine comes.blocks q.4)),
         ))
 
-    -- the disk or the sink failed in it
+    -- the disk or the sink failed in it, or a memory of another setup was found
     pub comes_failed : (h : Halt) → ended ≡ Err h → Does clear_line (Err h) was now
     comes_failed h is = comes_err h is
       where
-        failed_by : (h : Halt) (t : Standing V) → OpensTo (Err h) Making Cleared t down now → CarriesBy (Err h) down.machine (power_on down.machine down.blocks Making Cleared) t t (outside down) (outside now) now.disk
+        failed_by : (h : Halt) (t : Standing V) → OpensTo (Err h) Making Cleared t down now → (u : Standing V) × CarriesBy (Err h) down.machine (power_on down.machine down.blocks Making Cleared) t u (outside down) (outside now) now.disk
         failed_by Halt.ScriptFault t o = absurd o
         failed_by Halt.ReadFault t o = absurd o
-        failed_by Halt.DiskFault t o = o
-        failed_by Halt.WriteFault t o = o
+        failed_by Halt.DiskFault t o = (t, o)
+        failed_by Halt.WriteFault t o = (t, o)
+        failed_by Halt.SetupDiffers t o = o
 
         no_serving : (h : Halt) → ended ≡ Err h → Serves (Err h) → ⊥
         no_serving Halt.ScriptFault is serves = opens.no_stop is
         no_serving Halt.ReadFault is serves = opens.no_read is
         no_serving Halt.DiskFault is serves = serves
         no_serving Halt.WriteFault is serves = serves
+        no_serving Halt.SetupDiffers is serves = serves
 
         comes_err : (h : Halt) → ended ≡ Err h → Does clear_line (Err h) was now
         comes_err h is = record {
           carried = λ s fits.
-              let k = comes.so_far s fits in (
-                k.0,
+              let k = comes.so_far s fits in
+              let q = failed_by h k.0 (opened_to (Err h) is k.0 k.1) in (
+                q.0,
                 (λ serves. absurd (no_serving h is serves)),
-                then_by was.machine (Err h) (clear_line was.machine was.blocks) (opening_rest was.machine was.blocks) s k.0 k.0 (outside was) (outside down) (outside now) now.disk k.2
-                    (alike_by was.machine down.machine was.blocks down.blocks opening_rest (Err h) k.0 k.0 (outside down) (outside now) now.disk comes.machine comes.blocks (failed_by h k.0 (opened_to (Err h) is k.0 k.1))),
+                then_by was.machine (Err h) (clear_line was.machine was.blocks) (opening_rest was.machine was.blocks) s k.0 q.0 (outside was) (outside down) (outside now) now.disk k.2
+                    (alike_by was.machine down.machine was.blocks down.blocks opening_rest (Err h) k.0 q.0 (outside down) (outside now) now.disk comes.machine comes.blocks q.1),
               );
           leaves = record {
             sits = λ serves. absurd (no_serving h is serves);

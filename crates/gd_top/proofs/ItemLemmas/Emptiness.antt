@@ -4,6 +4,7 @@ use Rattle.std.proofs.lemmas.Bool.Decides.{nat_tests}
 use Rattle.gd_base.specs.Judging.Machine.{Machine}
 use Rattle.gd_base.specs.Payloads.LoadedView.{at_sequence, opens, view_loaded}
 use Rattle.gd_base.specs.Payloads.Spelled.{Spelled, Shows, Foreign, Unreadable}
+use Rattle.gd_base.specs.Laws.TellsViews.{TellsViews}
 use Rattle.gd_cabinet.specs.Shown.{shows, spelled_boot}
 use Rattle.gd_cabinet.proofs.Showing.{settled_shows}
 use Rattle.gd_disk.specs.Disk.{DiskState, IfTold}
@@ -11,7 +12,7 @@ use Rattle.gd_store.specs.Booting.{IsFound}
 use Rattle.gd_store.specs.Copy.{boots}
 use Rattle.gd_store.specs.declared.copy.layout.TheConstants.{LAYOUT}
 use Rattle.gd_store.specs.declared.copy.states.Found.{Found}
-use Rattle.gd_top.specs.Code.Memory.{IsLapFound, TellsApart}
+use Rattle.gd_top.specs.Code.Memory.{IsLapFound}
 use Rattle.gd_top.proofs.ItemLemmas.Images.{told_at}
 
 is_number : (m n : ℕ) → (m == n) ≡ true → m ≡ n
@@ -41,7 +42,7 @@ module _ {V : Type 0} (M : Machine V) (sequence : ℕ) where
     BootsAs found image = IsFound LAYOUT found image × (boots LAYOUT image ≡ Some (sequence, payload))
 
     -- the empty memory is found
-    pub lap_raised : (found : Found) (disk : DiskState) (making : Bool) (old : ℕ) → making ≡ true → IfTold disk.seen (BootsAs found) → sequence ≡ 0 → (TellsApart M → M.spelled payload ≡ Shows M.empty)
+    pub lap_raised : (found : Found) (disk : DiskState) (making : Bool) (old : ℕ) → making ≡ true → IfTold disk.seen (BootsAs found) → sequence ≡ 0 → (TellsViews M → M.spelled payload ≡ Shows M.empty)
         → IsLapFound making M disk old (old + 1)
     lap_raised found disk making old is told zero empty =
         subst (λ (b : Bool). IsLapFound b M disk old (old + 1)) (sym is)

@@ -10,7 +10,7 @@ use Rattle.gd_base.specs.Histories.Entry.{Entry}
 use Rattle.gd_base.specs.Judging.Answer.{answer, after_answer, entry_of, is_new}
 use Rattle.gd_base.specs.Judging.Legal.{draw_of}
 use Rattle.gd_base.specs.Judging.Machine.{Machine, Blocks}
-use Rattle.gd_base.specs.Laws.TellsViews.{HasPayload}
+use Rattle.gd_base.specs.Laws.TellsViews.{HasPayload, TellsViews}
 use Rattle.gd_base.specs.Outside.Causes.{Rose}
 use Rattle.gd_cabinet.specs.Answers.{view_offered, syncs_of, event_syncs}
 use Rattle.gd_cabinet.specs.Shown.{IsInBoth, ShowsEither}
@@ -21,7 +21,7 @@ use Rattle.gd_disk.proofs.Runs.{at_end}
 use Rattle.gd_disk.proofs.WholeRuns.{cut_lowers}
 use Rattle.gd_store.specs.Writing.{MadeSyncs}
 use Rattle.gd_top.specs.Code.Falls.{AreCalls, falls_by, fall_of}
-use Rattle.gd_top.specs.Code.Memory.{Moment, TellsApart, Fits, FitsDown, Sits, IsDown, Does, Leaves, outside}
+use Rattle.gd_top.specs.Code.Memory.{Moment, Fits, FitsDown, Sits, IsDown, Does, Leaves, outside}
 use Rattle.gd_top.specs.Code.Parts.{GivesText, Pending}
 use Rattle.gd_top.specs.Code.Standing.{Standing, Later, at, only}
 use Rattle.gd_top.specs.Report.AnswerText.{answer_text}
@@ -74,7 +74,8 @@ module _ {V : Type 0} (e : Numbered) (m n : Moment V) (h : IsAnswered e m n) whe
         let calls = calls_whole syncs m.counts.calls.items m.disk n.disk sits.counted.calls h.run in
         let many : length n.disk.armed ≡ length m.disk.armed = sym (calls_many m.counts.calls.items n.disk.armed calls) ∙ calls_many m.counts.calls.items m.disk.armed sits.counted.calls in
         record {
-          tells = subst TellsApart (sym h.machine) sits.tells;
+          tells = subst TellsViews (sym h.machine) sits.tells;
+          given = sits.given ∙ ap (λ (O : Machine V). O.digest) (sym h.machine);
           size = h.size ∙ sits.size;
           power = h.is_on;
           runs = h.runs;
@@ -331,6 +332,7 @@ pub record IsCounted {V : Type 0} (m n : Moment V) : Type 0 where
   pub power_ons : n.counts.power_ons ≡ m.counts.power_ons
   pub lines : n.counts.lines ≡ m.counts.lines
   pub lap : n.counts.lap ≡ m.counts.lap
+  pub given : n.counts.given ≡ m.counts.given
   pub calls : n.counts.calls.items ≡ drop 1 m.counts.calls.items
   pub falls : n.counts.falls.items ≡ m.counts.falls.items ++ falls_by m.counts.calls.items (m.counts.offers + 1)
 
@@ -338,7 +340,8 @@ module _ {V : Type 0} (m n : Moment V) (sits : Sits (on_at m)) (cut : IsCutOff s
   -- the power is off, and there is room for one power-on more
   pub event_down : n.machine ≡ m.machine → n.disk.size ≡ m.disk.size → n.disk.is_on ≡ false → IsDown n
   event_down machine size off = record {
-    tells = subst TellsApart (sym machine) sits.tells;
+    tells = subst TellsViews (sym machine) sits.tells;
+    given = k.given ∙ sits.given ∙ ap (λ (O : Machine V). O.digest) (sym machine);
     size = size ∙ sits.size;
     is_off = off;
     laps = omega (arith, sits.laps, k.lap, k.power_ons);

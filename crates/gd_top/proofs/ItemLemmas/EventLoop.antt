@@ -115,14 +115,15 @@ module _ {V : Type 0} (e : Numbered) where
   }
 
   module _ (mid down : Moment V) (fell : EventFell e mid down) where
-    -- the opening behind a cut failed
+    -- the opening behind a cut failed, or found a memory of another setup
     ends_by : (r : Result (Unit {0}) Halt) (now : Moment V) (flight : Flight) (wanted : Wanted) (t : Standing V) → is_err r ≡ true → OpensTo (as_opened r) flight wanted t down now
-        → (Serves r → Fits t now) × CarriesBy r down.machine (power_on down.machine down.blocks flight wanted) t t (outside down) (outside now) now.disk
+        → (u : Standing V) × (Serves r → Fits u now) × CarriesBy r down.machine (power_on down.machine down.blocks flight wanted) t u (outside down) (outside now) now.disk
     ends_by (Ok done) now flight wanted t err o = absurd (cc err)
     ends_by (Err Halt.ScriptFault) now flight wanted t err o = absurd o
     ends_by (Err Halt.ReadFault) now flight wanted t err o = absurd o
-    ends_by (Err Halt.DiskFault) now flight wanted t err o = ((λ serves. absurd serves), o)
-    ends_by (Err Halt.WriteFault) now flight wanted t err o = ((λ serves. absurd serves), o)
+    ends_by (Err Halt.DiskFault) now flight wanted t err o = (t, (λ serves. absurd serves), o)
+    ends_by (Err Halt.WriteFault) now flight wanted t err o = (t, (λ serves. absurd serves), o)
+    ends_by (Err Halt.SetupDiffers) now flight wanted t err o = (o.0, (λ serves. absurd serves), o.1)
 
     pub reopening_failed : (r : Result (Unit {0}) Halt) (now : Moment V) → is_err r ≡ true → Reopens r down now → Does tell r mid now
     reopening_failed r now err o = record {
@@ -131,10 +132,10 @@ module _ {V : Type 0} (e : Numbered) where
           let entry : Entry = k.0 in
           let t : Standing V = k.1 in
           let q = ends_by r now (Recording entry) (Answer e) t err (o.carried (Recording entry) (Answer e) (refl, refl) t k.2) in (
-            t,
             q.0,
-            then_by mid.machine r (tell mid.machine mid.blocks) (power_on mid.machine mid.blocks (Recording entry) (Answer e)) s t t (outside mid) (outside down) (outside now) now.disk k.3
-                (alike_by mid.machine down.machine mid.blocks down.blocks (λ M B. power_on M B (Recording entry) (Answer e)) r t t (outside down) (outside now) now.disk fell.keeps.machine fell.keeps.blocks q.1),
+            q.1,
+            then_by mid.machine r (tell mid.machine mid.blocks) (power_on mid.machine mid.blocks (Recording entry) (Answer e)) s t q.0 (outside mid) (outside down) (outside now) now.disk k.3
+                (alike_by mid.machine down.machine mid.blocks down.blocks (λ M B. power_on M B (Recording entry) (Answer e)) r t q.0 (outside down) (outside now) now.disk fell.keeps.machine fell.keeps.blocks q.2),
           );
       leaves = leaves_on mid down now r fell.keeps o.leaves;
       reads_nothing = o.no_read;

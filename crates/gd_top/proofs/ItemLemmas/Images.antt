@@ -29,7 +29,6 @@ use Rattle.gd_store.specs.declared.copy.layout.TheConstants.{LAYOUT}
 use Rattle.gd_store.proofs.MaskedBoots.{bad_boots, latest_is, length_masked, masked_boots}
 use Rattle.gd_store.proofs.Sealed.{same_bytes}
 use Rattle.gd_top.specs.Claims.MemoryLeft.{IsMasked, IsSettled}
-use Rattle.gd_top.specs.Code.Memory.{TellsApart}
 use Rattle.gd_top.specs.Report.Lines.{is_copy_full, is_found_full}
 use Rattle.gd_top.specs.Run.Openings.{may_lock}
 use Rattle.gd_top.specs.Run.State.{Nothing}
@@ -127,23 +126,6 @@ module _ {V : Type 0} (M : Machine V) where
   shown_boots v image is =
       let b = booted_by (boots LAYOUT image) v is in
       record { payload = b.0; boots = b.1; spelled = b.2 }
-
-  -- no image shows a view of another setup
-  pub not_foreign : TellsApart M → (image kept : List ℕ) → shows M image ≡ Foreign kept → ⊥
-  not_foreign tells image kept is = by_boot (boots LAYOUT image) is
-    where
-      by_count : (b : Bool) (v : V) → (if b then Shows v else Unreadable) ≡ Foreign kept → ⊥
-      by_count true v e = cc e
-      by_count false v e = cc e
-
-      by_payload : (n : ℕ) (payload : List ℕ) (s : Spelled V) → M.spelled payload ≡ s → at_sequence M n s ≡ Foreign kept → ⊥
-      by_payload n payload (Shows v) e at = by_count (M.count v == n) v at
-      by_payload n payload (Foreign other) e at = tells.no_other payload other e
-      by_payload n payload Unreadable e at = cc at
-
-      by_boot : (b : Option (ℕ × List ℕ)) → opens M (spelled_boot M b) ≡ Foreign kept → ⊥
-      by_boot None at = cc at
-      by_boot (Some booted) at = by_payload booted.0 booted.1 (M.spelled booted.1) refl at
 
   full_by : (s t : CopyState) (n : ℕ) → later_sequence s t ≡ Some n → (is_copy_full s || is_copy_full t) ≡ nat_le MOST_ENTRIES n
   full_by (CopyState.Sound m) (CopyState.Sound k) n is = later m k n (some_is (if nat_lt m k then k else m) n is)

@@ -85,6 +85,7 @@ module _ {V : Type 0} (was : Moment V) where
         leaves = record {
           sits = λ serves. record {
             tells = sits.tells;
+            given = sits.given;
             size = sits.size;
             power = sits.power;
             runs = sits.runs;

@@ -3,9 +3,9 @@ use Rattle.std.proofs.Common.{◌≡◌, ◌∙◌, append-nil, ◌⊎◌, inl, 
 use Rattle.std.specs.Io.KnownBytes.{Appends}
 use Rattle.gd_base.specs.Judging.Answer.{is_full}
 use Rattle.gd_base.specs.Judging.Machine.{Machine, Blocks}
-use Rattle.gd_base.specs.Laws.TellsViews.{HasPayload}
+use Rattle.gd_base.specs.Laws.TellsViews.{HasPayload, TellsViews}
 use Rattle.gd_base.specs.Outside.Causes.{AppendsFront, Rose}
-use Rattle.gd_base.specs.Payloads.Spelled.{Shows, Unreadable}
+use Rattle.gd_base.specs.Payloads.Spelled.{Shows, Foreign, Unreadable}
 use Rattle.gd_cabinet.specs.OpenMoments.{opening_syncs, view_started}
 use Rattle.gd_cabinet.specs.Shown.{shows, IsInBoth, ShowsEither}
 use Rattle.gd_disk.specs.CutRuns.{IsCompleteRun, IsCutOff, IsFaulted}
@@ -15,26 +15,27 @@ use Rattle.gd_store.specs.Copy.{AreBad, found_in}
 use Rattle.gd_store.specs.Masks.{found_behind, is_forged}
 use Rattle.gd_store.specs.Repair.{Repair, repair_needed}
 use Rattle.gd_store.specs.declared.copy.layout.TheConstants.{LAYOUT}
-use Rattle.gd_top.specs.Claims.MemoryLeft.{IsLeftIn, IsNear, IsShut}
+use Rattle.gd_top.specs.Claims.MemoryLeft.{IsLeftIn, IsNear, IsOfAnother, IsShut}
 use Rattle.gd_top.specs.Code.Falls.{AreCalls, AreWaiting, fall_of, falls_by}
-use Rattle.gd_top.specs.Code.Memory.{Moment, Fits, FitsDown, IsFallen, IsKnownIn, IsLapFound, IsWantedIn, OpensTo, TellsApart, is_of_making, outside, stands_with, unless_failed}
+use Rattle.gd_top.specs.Code.Memory.{Moment, Fits, FitsDown, IsFallen, IsKnownIn, IsLapFound, IsWantedIn, OpensTo, is_of_making, outside, stands_with, unless_failed}
 use Rattle.gd_top.specs.Code.Parts.{GivesText, Pending}
 use Rattle.gd_top.specs.Code.Standing.{Standing, Later, EndsInNone, at, finds, only}
-use Rattle.gd_top.specs.Report.Lines.{locked_line, power_line, start_text}
+use Rattle.gd_top.specs.Report.Lines.{differs_line, locked_line, power_line, start_text}
 use Rattle.gd_top.specs.Run.Offers.{AreArmed, Rise}
 use Rattle.gd_top.specs.Run.Openings.{Wanted, Done, Cleared, locked_with, power_on, resumed, still_wanted}
 use Rattle.gd_top.specs.Run.Starts.{start_in}
-use Rattle.gd_top.specs.Run.State.{Flight, Nothing, Recording, Making, Phase, On, Locked, before, breaks}
+use Rattle.gd_top.specs.Run.State.{State, Part, Flight, Nothing, Recording, Making, Phase, On, Locked, Differs, before, breaks, ends}
 use Rattle.gd_top.specs.declared.halt.Halt.{Halt}
 use Rattle.gd_top.specs.declared.item.opening.Opened.{Opened}
 use Rattle.gd_top.specs.declared.memory.counts.Counts.{Counts}
 use Rattle.gd_top.proofs.ItemLemmas.Images.{one_view, shown_boots}
 use Rattle.gd_top.proofs.ItemLemmas.Opening.{opening_syncs_are, syncs_by}
-use Rattle.gd_top.proofs.ItemLemmas.OpeningEnds.{broken_end, broken_so, fell_pending, fell_unwritten, near_next, resumed_ends, locked_ends, shut_tells, told_so, unbroken_so, unread_so, unwritten_so, whole_tells}
+use Rattle.gd_top.proofs.ItemLemmas.OpeningEnds.{broken_end, broken_so, fell_pending, fell_unwritten, near_next, resumed_ends, locked_ends, differs_ends, differs_tells, shut_tells, told_so, unbroken_so, unread_so, unwritten_so, whole_tells}
 use Rattle.gd_top.proofs.ItemLemmas.OpeningOffers.{opened_view, opening_flight, opening_recorded}
-use Rattle.gd_top.proofs.ItemLemmas.Readings.{IsRead, IsShutBy, found_shut, lock_by, read_by, read_making, read_nothing, read_recording}
+use Rattle.gd_top.proofs.ItemLemmas.Readings.{IsRead, IsShutBy, differ_by, differ_clear, found_shut, lock_by, read_by, read_making, read_nothing, read_recording}
 use Rattle.gd_top.proofs.RunLemmas.Cuts.{armed_length, armed_used, armed_whole, falls_are}
 use Rattle.gd_top.proofs.RunLemmas.OffersAt.{after_fall}
+use Rattle.gd_top.proofs.RunLemmas.Standings.{IsClear}
 
 pub by_given : (given : Result (Unit {0}) Halt) (next : Result Opened Halt) (P : Result Opened Halt → Type 0) (u v : Option (List ℕ)) (text : List ℕ) → GivesText given u v text
     → (Appends u v text → P next) → (AppendsFront u v text → P (Err Halt.WriteFault)) → P (unless_failed given next)
@@ -43,14 +44,15 @@ by_given (Err Halt.ScriptFault) next P u v text gives whole front = absurd gives
 by_given (Err Halt.ReadFault) next P u v text gives whole front = absurd gives
 by_given (Err Halt.DiskFault) next P u v text gives whole front = absurd gives
 by_given (Err Halt.WriteFault) next P u v text gives whole front = front gives
+by_given (Err Halt.SetupDiffers) next P u v text gives whole front = absurd gives
 
 module _ (given : Result (Unit {0}) Halt) (u v : Option (List ℕ)) (text : List ℕ) (gives : GivesText given u v text) where
   -- it went on so, and not otherwise
   pub only_so : (kind other : Opened) → (kind ≡ other → ⊥) → unless_failed given (Ok kind) ≡ Ok other → ⊥
   only_so kind other differ = by_given given (Ok kind) (λ r. r ≡ Ok other → ⊥) u v text gives (λ all is. differ (cc is)) (λ front is. cc is)
 
-  pub no_kind : (kind : Opened) → unless_failed given (Err Halt.DiskFault) ≡ Ok kind → ⊥
-  no_kind kind = by_given given (Err Halt.DiskFault) (λ r. r ≡ Ok kind → ⊥) u v text gives (λ all is. cc is) (λ front is. cc is)
+  pub no_kind : (halt : Halt) (kind : Opened) → unless_failed given (Err halt) ≡ Ok kind → ⊥
+  no_kind halt kind = by_given given (Err halt) (λ r. r ≡ Ok kind → ⊥) u v text gives (λ all is. cc is) (λ front is. cc is)
 
   pub no_disk_fault : (kind : Opened) → unless_failed given (Ok kind) ≡ Err Halt.DiskFault → ⊥
   no_disk_fault kind = by_given given (Ok kind) (λ r. r ≡ Err Halt.DiskFault → ⊥) u v text gives (λ all is. cc is) (λ front is. cc is)
@@ -79,7 +81,7 @@ pub record HasRead {V : Type 0} (making : Bool) (was : Moment V) (mid : DiskStat
   pub lap_found : IsLapFound making was.machine mid was.counts.lap lap
   pub seen : mid.seen ≡ Some image
   pub synced : IsSynced mid
-  pub tells : TellsApart was.machine
+  pub tells : TellsViews was.machine
   pub armed : mid.armed ≡ was.disk.armed
   pub waiting : AreWaiting mid.armed
   pub syncs : mid.syncs ≡ was.disk.syncs
@@ -417,3 +419,48 @@ module _ {V : Type 0} (making : Bool) (was : Moment V) where
             bad = λ is none c may. subst (AreBad LAYOUT) (sym (only_it c may)) (by.bad none);
             explained = by.clear;
           }
+
+      -- ================ the memory was made under another setup
+      pub differs_to : (given : Result (Unit {0}) Halt) (kept : List ℕ) → shows M image ≡ Foreign kept → now.disk.armed ≡ mid.armed → now.disk.syncs ≡ mid.syncs → now.counts.falls.items ≡ was.counts.falls.items
+          → ((c : List ℕ) → now.disk.may_find c → c ≡ image) → now.disk.is_on ≡ true → IsSynced now.disk
+          → GivesText given was.taken now.taken (line ++ differs_line kept M.digest) → OpensTo (unless_failed given (Err Halt.SetupDiffers)) flight wanted s was now
+      differs_to given kept shown armed syncs falls only_it on synced gives =
+          by_given given (Err Halt.SetupDiffers) (λ r. OpensTo r flight wanted s was now) was.taken now.taken (line ++ differs_line kept M.digest) gives
+          (λ all. (
+            t,
+            record {
+              carried = told_so M B h.tells image s (outside was) (outside now) listed (power_on M B flight wanted) rest t now.disk text falls refl refl (omega (arith, syncs, h.syncs)) told (subst (Appends was.taken now.taken) (sym text_is) all);
+              armed = armed_now;
+              explained = clear;
+              left = left;
+            },
+          ))
+          (λ front. unwritten_so M B h.tells image s (outside was) (outside now) listed (power_on M B flight wanted) rest t now.disk text falls refl clear (armed_length s.armed now.disk.armed armed_now)
+          (differs_ends M B t now.disk left) told (subst (AppendsFront was.taken now.taken) (sym text_is) front))
+        where
+          forged : Bool
+          forged = is_forged s.masks (found_behind LAYOUT image)
+
+          t : Standing V
+          t = differ_by forged s
+
+          rest : State V → Part V
+          rest u = ends Differs [] u
+
+          clear : IsClear t
+          clear = differ_clear forged s fits.explained
+
+          text : List ℕ
+          text = line_as ++ differs_line kept M.digest
+
+          text_is : text ≡ line ++ differs_line kept M.digest
+          text_is = ap (λ (l : List ℕ). l ++ differs_line kept M.digest) line_is
+
+          told : (x : Later V) → EndsInNone x.broken_at t.offers → Rise t.offers x.falls → power_on M B flight wanted (at s (finds (start_in M image ∷ []) [] x)) ≡ before text (rest (at t x))
+          told x whole rise = differs_tells M B h.tells image s (outside was) (outside now) listed flight wanted kept shown x
+
+          left : IsOfAnother M now.disk
+          left = record { kept = kept; shut = record { image = image; earlier = was.disk.found; last = listed; only = only_it; shut = shown }; is_on = on; synced = synced }
+
+          armed_now : AreArmed s.armed now.disk.armed
+          armed_now = subst (AreArmed s.armed) (sym armed) armed_mid

@@ -5,9 +5,9 @@ use Rattle.std.specs.Io.KnownBytes.{Appends}
 use Rattle.gd_base.specs.Judging.Answer.{answer, entry_of, is_full}
 use Rattle.gd_base.specs.Judging.Legal.{next_entry}
 use Rattle.gd_base.specs.Judging.Machine.{Machine, Blocks}
-use Rattle.gd_base.specs.Laws.TellsViews.{HasPayload}
+use Rattle.gd_base.specs.Laws.TellsViews.{HasPayload, TellsViews}
 use Rattle.gd_base.specs.Outside.Causes.{AppendsFront}
-use Rattle.gd_base.specs.Payloads.Spelled.{Spelled, Shows, Unreadable}
+use Rattle.gd_base.specs.Payloads.Spelled.{Spelled, Shows, Foreign, Unreadable}
 use Rattle.gd_base.specs.declared.event.Event.{Event}
 use Rattle.gd_base.specs.declared.step.Numbered.{Numbered}
 use Rattle.gd_base.specs.declared.step.Stepped.{Stepped}
@@ -20,30 +20,29 @@ use Rattle.gd_store.specs.Making.{IsMaking}
 use Rattle.gd_store.specs.Masks.{found_behind, is_forged}
 use Rattle.gd_store.specs.Repair.{Repair, repair_needed}
 use Rattle.gd_store.specs.declared.copy.layout.TheConstants.{LAYOUT}
-use Rattle.gd_top.specs.Claims.MemoryLeft.{IsLeftIn, IsLeftAt, IsNear, IsOfMaking, IsShut}
+use Rattle.gd_top.specs.Claims.MemoryLeft.{IsLeftIn, IsLeftAt, IsNear, IsOfAnother, IsOfMaking, IsShut}
 use Rattle.gd_top.specs.Code.Falls.{AreWaiting, fall_of}
-use Rattle.gd_top.specs.Code.Memory.{TellsApart}
 use Rattle.gd_top.specs.Code.Parts.{Outside, Pending, FoundSince, Ending, Broken, Unwritten}
 use Rattle.gd_top.specs.Code.Standing.{Standing, Later, EndsInNone, at, finds, only}
 use Rattle.gd_top.specs.Report.AnswerText.{answer_text}
-use Rattle.gd_top.specs.Report.Lines.{locked_line, power_line, start_text}
+use Rattle.gd_top.specs.Report.Lines.{differs_line, locked_line, power_line, start_text}
 use Rattle.gd_top.specs.Run.Offers.{AreArmed, Rise, is_broken, syncs_of_event, syncs_of_making}
 use Rattle.gd_top.specs.Run.Openings.{Wanted, Done, Answer, Cleared, answered, found_open, locked_with, opened, power_on, powered, reopen, resumed, still_wanted}
 use Rattle.gd_top.specs.Run.Starts.{start_in, starts_in}
-use Rattle.gd_top.specs.Run.State.{Start, State, Part, Flight, Nothing, Recording, Making, On, Locked, before, breaks, prints}
+use Rattle.gd_top.specs.Run.State.{Start, State, Part, Flight, Nothing, Recording, Making, On, Locked, Differs, before, breaks, ends, prints}
 use Rattle.gd_top.proofs.ItemLemmas.EventOffers.{event_broke}
 use Rattle.gd_top.proofs.ItemLemmas.Images.{holds_shows}
 use Rattle.gd_top.proofs.ItemLemmas.MakingOffers.{making_broke}
 use Rattle.gd_top.proofs.ItemLemmas.Opening.{syncs_by}
 use Rattle.gd_top.proofs.ItemLemmas.OpeningOffers.{opened_view, opening_broke, opening_fell, opening_flight, opening_recorded, opening_whole}
-use Rattle.gd_top.proofs.ItemLemmas.Readings.{IsRead, lock_by, read_by}
+use Rattle.gd_top.proofs.ItemLemmas.Readings.{IsRead, differ_by, lock_by, read_by}
 use Rattle.gd_top.proofs.LineLemmas.Counted.{front_longer}
 use Rattle.gd_top.proofs.RunLemmas.Cuts.{armed_faulted, armed_length, armed_used}
 use Rattle.gd_top.proofs.RunLemmas.Equations.{answered_again, answered_full, answered_step, next_start, no_start}
 use Rattle.gd_top.proofs.RunLemmas.Handed.{locked_alike, resumed_alike}
 use Rattle.gd_top.proofs.RunLemmas.Joins.{before_before}
 use Rattle.gd_top.proofs.RunLemmas.OffersAt.{after_fall, after_offer, fall_moves}
-use Rattle.gd_top.proofs.RunLemmas.Said.{ends_nowhere, moves_on}
+use Rattle.gd_top.proofs.RunLemmas.Said.{ends_nowhere, moves_on, nothing_behind}
 use Rattle.gd_top.proofs.RunLemmas.Standings.{IsClear}
 
 -- a run that ends in a later offer doesn't end before
@@ -136,9 +135,13 @@ module _ {V : Type 0} (M : Machine V) (B : Blocks) where
       left = unbegun (empty refl) shut;
     }
 
+    -- the run ends over a memory of another setup
+    pub differs_ends : IsOfAnother M disk → EndsWith (λ s. ends Differs [] s) t disk
+    differs_ends left = record { end = ends Differs [] (at t x); is = refl; used_up = (refl, refl); armed = refl; clear = λ clear. clear; left = left }
+
   -- ================ one power-on
 
-  module _ (tells : TellsApart M) (image : List ℕ) (s : Standing V) (u o : Outside) (listed : o.found ≡ u.found ++ image ∷ []) where
+  module _ (tells : TellsViews M) (image : List ℕ) (s : Standing V) (u o : Outside) (listed : o.found ≡ u.found ++ image ∷ []) where
     abbrev start : Start V
     start = start_in M image
 
@@ -341,6 +344,17 @@ module _ {V : Type 0} (M : Machine V) (B : Blocks) where
         ∙ ap (λ (r : Spelled V). before line (found_open M B again r start.found flight wanted (powered start x.starts (at s y)))) shut
         ∙ before_before line locked_line (locked_with M again wanted t)
         ∙ ap (before (line ++ locked_line)) (locked_alike M B x.starts wanted t refl)
+
+    -- ================ the memory was made under another setup
+
+    pub differs_tells : (flight : Flight) (wanted : Wanted) (kept : List ℕ) → shows M image ≡ Foreign kept → (x : Later V)
+        → power_on M B flight wanted (at s (finds (start ∷ []) [] x)) ≡ before (line ++ differs_line kept M.digest) (ends Differs [] (at (differ_by forged s) x))
+    differs_tells flight wanted kept shown x =
+        let again = reopen M B x.starts in
+        let y = finds (start ∷ []) [] x in
+        next_start M B start x.starts flight wanted (at s y)
+        ∙ ap (λ (r : Spelled V). before line (found_open M B again r start.found flight wanted (powered start x.starts (at s y)))) shown
+        ∙ nothing_behind (line ++ differs_line kept M.digest) (at (differ_by forged s) x) Differs
 
   -- ================ the copies could not be read
 

@@ -4,6 +4,7 @@ use Rattle.std.proofs.lemmas.List.{length-append}
 use Rattle.gd_base.specs.Judging.Machine.{Machine, Blocks}
 use Rattle.gd_base.specs.Outside.Causes.{Rose}
 use Rattle.gd_base.specs.Payloads.Spelled.{Shows}
+use Rattle.gd_base.specs.Laws.TellsViews.{TellsViews}
 use Rattle.gd_cabinet.specs.OpenAnswer.{OnUnread}
 use Rattle.gd_cabinet.specs.declared.cabinet.Parts.{Parts}
 use Rattle.gd_cabinet.specs.declared.opening.CabinetOpened.{CabinetOpened}
@@ -17,7 +18,7 @@ use Rattle.gd_disk.proofs.Runs.{at_end}
 use Rattle.gd_disk.proofs.WholeRuns.{cut_lowers}
 use Rattle.gd_store.specs.Writing.{From}
 use Rattle.gd_top.specs.Code.Falls.{AreCalls, AreWaiting, falls_by}
-use Rattle.gd_top.specs.Code.Memory.{Moment, AreCounted, FitsDown, IsDown, IsLapFound, IsWantedIn, Opens, OpensTo, Sits, TellsApart, unless_failed}
+use Rattle.gd_top.specs.Code.Memory.{Moment, AreCounted, FitsDown, IsDown, IsLapFound, IsWantedIn, Opens, OpensTo, Sits, unless_failed}
 use Rattle.gd_top.specs.Code.Parts.{GivesText}
 use Rattle.gd_top.specs.Code.Standing.{Standing}
 use Rattle.gd_top.specs.Run.Openings.{Wanted}
@@ -89,7 +90,7 @@ module _ {V : Type 0} (making : Bool) (was : Moment V) where
   }
 
   -- the lap is below the power-ons
-  pub lap_room : (kind : Bool) (mid : DiskState) (lap : ℕ) (image : List ℕ) → TellsApart was.machine → mid.seen ≡ Some image → IsLapFound kind was.machine mid was.counts.lap lap → was.counts.lap ≤ was.counts.power_ons → (kind ≡ true → was.counts.lap < was.counts.power_ons)
+  pub lap_room : (kind : Bool) (mid : DiskState) (lap : ℕ) (image : List ℕ) → TellsViews was.machine → mid.seen ≡ Some image → IsLapFound kind was.machine mid was.counts.lap lap → was.counts.lap ≤ was.counts.power_ons → (kind ≡ true → was.counts.lap < was.counts.power_ons)
       → lap ≤ was.counts.power_ons
   lap_room false mid lap image tells seen found le room = omega (arith, found, le)
   lap_room true mid lap image tells seen found le room = by_view (found tells image seen)
@@ -118,16 +119,17 @@ module _ {V : Type 0} (making : Bool) (was : Moment V) where
   few_falls (false ∷ later) offer = omega arith
 
   -- a cut came in it
-  pub down_after : (syncs lap : ℕ) (mid : DiskState) (now : Moment V) → IsDown was → mid.armed ≡ was.disk.armed → mid.size ≡ was.disk.size → IsCutOff syncs mid now.disk → now.machine ≡ was.machine → now.disk.size ≡ mid.size → now.disk.is_on ≡ false
+  pub down_after : (syncs lap : ℕ) (mid : DiskState) (now : Moment V) → IsDown was → mid.armed ≡ was.disk.armed → mid.size ≡ was.disk.size → IsCutOff syncs mid now.disk → now.machine ≡ was.machine → now.counts.given ≡ was.counts.given → now.disk.size ≡ mid.size → now.disk.is_on ≡ false
       → lap ≤ was.counts.power_ons → now.counts.lap ≡ lap → now.counts.power_ons ≡ was.counts.power_ons + 1 → now.counts.calls.items ≡ drop 1 was.counts.calls.items
       → now.counts.falls.items ≡ was.counts.falls.items ++ falls_by was.counts.calls.items (was.counts.offers + 1) → IsDown now
-  down_after syncs lap mid now down armed long cut machine size off le lap_is power_ons calls falls =
+  down_after syncs lap mid now down armed long cut machine given size off le lap_is power_ons calls falls =
       let at_mid : AreCalls was.counts.calls.items mid.armed = subst (AreCalls was.counts.calls.items) (sym armed) down.calls in
       let lower : length mid.armed ≡ length now.disk.armed + 1 = cut_lowers syncs mid now.disk cut in
       let as_many : length mid.armed ≡ length was.disk.armed = ap length armed in
       let fell : length now.counts.falls.items ≡ length was.counts.falls.items + length (falls_by was.counts.calls.items (was.counts.offers + 1)) = ap length falls ∙ length-append was.counts.falls.items (falls_by was.counts.calls.items (was.counts.offers + 1)) in
       record {
-        tells = subst TellsApart (sym machine) down.tells;
+        tells = subst TellsViews (sym machine) down.tells;
+        given = given ∙ down.given ∙ ap (λ (O : Machine V). O.digest) (sym machine);
         size = size ∙ long ∙ down.size;
         is_off = off;
         laps = omega (arith, le, lap_is, power_ons);
@@ -235,12 +237,12 @@ module _ {V : Type 0} (making : Bool) (was : Moment V) where
     pub opens_failed : CarriesEach (unless_failed given (Err Halt.DiskFault)) now → Rose was.disk.faults now.disk.faults → Opens making (unless_failed given (Err Halt.DiskFault)) was now
     opens_failed carried rose = record {
       carried = carried;
-      stands = λ is. absurd (no_kind given was.taken now.taken text gives Opened.Stands is);
-      powered = λ is. absurd (no_kind given was.taken now.taken text gives Opened.Stands is);
-      fell = λ is. absurd (no_kind given was.taken now.taken text gives Opened.Fell is);
-      closed = λ is. absurd (no_kind given was.taken now.taken text gives Opened.Fell is);
-      fewer = λ is. absurd (no_kind given was.taken now.taken text gives Opened.Fell is);
-      no_fault = λ kind is. absurd (no_kind given was.taken now.taken text gives kind is);
+      stands = λ is. absurd (no_kind given was.taken now.taken text gives Halt.DiskFault Opened.Stands is);
+      powered = λ is. absurd (no_kind given was.taken now.taken text gives Halt.DiskFault Opened.Stands is);
+      fell = λ is. absurd (no_kind given was.taken now.taken text gives Halt.DiskFault Opened.Fell is);
+      closed = λ is. absurd (no_kind given was.taken now.taken text gives Halt.DiskFault Opened.Fell is);
+      fewer = λ is. absurd (no_kind given was.taken now.taken text gives Halt.DiskFault Opened.Fell is);
+      no_fault = λ kind is. absurd (no_kind given was.taken now.taken text gives Halt.DiskFault kind is);
       disk_fault = λ is. rose;
       later = later;
       write_fault = λ is. write_cause given was.taken now.taken text gives (Err Halt.DiskFault) was.faults now.faults (λ e. cc e) cause is;
@@ -248,8 +250,30 @@ module _ {V : Type 0} (making : Bool) (was : Moment V) where
       no_read = λ is. no_other given was.taken now.taken text gives (Err Halt.DiskFault) Halt.ReadFault (λ e. cc e) (λ e. cc e) is;
       machine = machine;
       blocks = blocks;
-      still = λ is. absurd (no_kind given was.taken now.taken text gives Opened.Stands is);
-      another = λ kind is. absurd (no_kind given was.taken now.taken text gives kind is);
+      still = λ is. absurd (no_kind given was.taken now.taken text gives Halt.DiskFault Opened.Stands is);
+      another = λ kind is. absurd (no_kind given was.taken now.taken text gives Halt.DiskFault kind is);
+      offers = omega (arith, counts.offers, counts.power_ons);
+      more = omega (arith, counts.power_ons);
+    }
+
+    pub opens_differs : CarriesEach (unless_failed given (Err Halt.SetupDiffers)) now → Opens making (unless_failed given (Err Halt.SetupDiffers)) was now
+    opens_differs carried = record {
+      carried = carried;
+      stands = λ is. absurd (no_kind given was.taken now.taken text gives Halt.SetupDiffers Opened.Stands is);
+      powered = λ is. absurd (no_kind given was.taken now.taken text gives Halt.SetupDiffers Opened.Stands is);
+      fell = λ is. absurd (no_kind given was.taken now.taken text gives Halt.SetupDiffers Opened.Fell is);
+      closed = λ is. absurd (no_kind given was.taken now.taken text gives Halt.SetupDiffers Opened.Fell is);
+      fewer = λ is. absurd (no_kind given was.taken now.taken text gives Halt.SetupDiffers Opened.Fell is);
+      no_fault = λ kind is. absurd (no_kind given was.taken now.taken text gives Halt.SetupDiffers kind is);
+      disk_fault = λ is. absurd (no_other given was.taken now.taken text gives (Err Halt.SetupDiffers) Halt.DiskFault (λ e. cc e) (λ e. cc e) is);
+      later = later;
+      write_fault = λ is. write_cause given was.taken now.taken text gives (Err Halt.SetupDiffers) was.faults now.faults (λ e. cc e) cause is;
+      no_stop = λ is. no_other given was.taken now.taken text gives (Err Halt.SetupDiffers) Halt.ScriptFault (λ e. cc e) (λ e. cc e) is;
+      no_read = λ is. no_other given was.taken now.taken text gives (Err Halt.SetupDiffers) Halt.ReadFault (λ e. cc e) (λ e. cc e) is;
+      machine = machine;
+      blocks = blocks;
+      still = λ is. absurd (no_kind given was.taken now.taken text gives Halt.SetupDiffers Opened.Stands is);
+      another = λ kind is. absurd (no_kind given was.taken now.taken text gives Halt.SetupDiffers kind is);
       offers = omega (arith, counts.offers, counts.power_ons);
       more = omega (arith, counts.power_ons);
     }

@@ -2,7 +2,7 @@
 use Rattle.std.proofs.Common.{◌≡◌, ◌∙◌, ◌⊎◌, inl, inr, ⊎_elim, ap, sym, subst, refl, ℕ, ◌+◌, Bool, true, false, if◌then◌else◌, List, [], ◌∷◌, length, arith, None}
 use Rattle.gd_base.specs.Histories.Entry.{Entry}
 use Rattle.gd_base.specs.Judging.Machine.{Machine}
-use Rattle.gd_base.specs.Laws.TellsViews.{HasPayload}
+use Rattle.gd_base.specs.Laws.TellsViews.{HasPayload, TellsViews}
 use Rattle.gd_base.specs.Payloads.Spelled.{Shows, Unreadable}
 use Rattle.gd_cabinet.specs.Shown.{shows}
 use Rattle.gd_disk.specs.declared.lengths.TheConstants.{DISK_LEN}
@@ -10,7 +10,7 @@ use Rattle.gd_store.specs.Copy.{AreBad}
 use Rattle.gd_store.specs.Masks.{AreWithin, found_behind, is_forged}
 use Rattle.gd_store.specs.declared.copy.layout.TheConstants.{LAYOUT}
 use Rattle.gd_top.specs.Claims.MemoryLeft.{IsNear}
-use Rattle.gd_top.specs.Code.Memory.{IsFallen, TellsApart}
+use Rattle.gd_top.specs.Code.Memory.{IsFallen}
 use Rattle.gd_top.specs.Code.Standing.{Standing, Later, at, only}
 use Rattle.gd_top.specs.Run.Openings.{may_lock, powered, resolved, turned_on, unexplained}
 use Rattle.gd_top.specs.Run.Starts.{start_in}
@@ -82,7 +82,20 @@ unforged : (forged : Bool) (n : ℕ) → (if forged then n + 1 else n) ≡ 0 →
 unforged false n none = (refl, none)
 unforged true n none = absurd (omega (arith, none))
 
-module _ {V : Type 0} (M : Machine V) (tells : TellsApart M) (image : List ℕ) (long : length image ≡ DISK_LEN) (s : Standing V) where
+-- the memory was made under another setup: an offer more, without a sync
+abbrev pub differ_by : {V : Type 0} → (forged : Bool) → Standing V → Standing V
+differ_by forged s = record s {
+  power_ons = s.power_ons + 1;
+  offers = s.offers + 1;
+  syncs = s.syncs + 0;
+  forged = if forged then s.forged + 1 else s.forged;
+}
+
+-- and where nothing was forged, each view and each lock so far has its reason
+pub differ_clear : {V : Type 0} (forged : Bool) (s : Standing V) → IsClear s → IsClear (differ_by forged s)
+differ_clear forged s clear none = clear (unforged forged s.forged none).1
+
+module _ {V : Type 0} (M : Machine V) (tells : TellsViews M) (image : List ℕ) (long : length image ≡ DISK_LEN) (s : Standing V) where
   abbrev start : Start V
   start = start_in M image
 
@@ -129,7 +142,7 @@ module _ {V : Type 0} (M : Machine V) (tells : TellsApart M) (image : List ℕ) 
         never clash = cc clash
 
     pub read_nothing : AreWithin s.masks → IsNear M Nothing (at s (only [] [] None)) [] image → HasPayload M s.view → IsRead Nothing v s.lap
-    read_nothing within near spelled = nothing_by (M.same v s.view) refl (λ same. sym (tells.views.same_is v s.view payload spelled same)) (λ none. explained none near)
+    read_nothing within near spelled = nothing_by (M.same v s.view) refl (λ same. sym (tells.same_is v s.view payload spelled same)) (λ none. explained none near)
       where
         explained : forged ≡ false → IsNear M Nothing (at s (only [] [] None)) [] image → v ≡ s.view
         explained none (inl masked) = masked_view M s.view v s.masks image masked within long shown none
@@ -150,7 +163,7 @@ module _ {V : Type 0} (M : Machine V) (tells : TellsApart M) (image : List ℕ) 
       finding = Done e;
       is = λ starts x.
           let u = turned_on (powered start starts (at s x)) in
-          found_done M tells.views e v u is payload spelled ∙ (λ i. record (at (read_by (Done e) forged v s) (record x { starts = starts })) { view = sym is i });
+          found_done M tells e v u is payload spelled ∙ (λ i. record (at (read_by (Done e) forged v s) (record x { starts = starts })) { view = sym is i });
       lap_is = refl;
       clear = still_clear (Done e) refl;
     }
@@ -172,14 +185,14 @@ module _ {V : Type 0} (M : Machine V) (tells : TellsApart M) (image : List ℕ) 
       finding = Stood;
       is = λ starts x.
           let u = turned_on (powered start starts (at s x)) in
-          found_nonempty M tells.views v u other payload empty ∙ ap (λ (b : Bool). if b then u else unexplained v u) e
+          found_nonempty M tells v u other payload empty ∙ ap (λ (b : Bool). if b then u else unexplained v u) e
           ∙ (λ i. record (at (read_by Stood forged v s) (record x { starts = starts })) { view = is refl i });
       lap_is = refl;
       clear = λ none. absurd (never (unforged forged s.forged none).1);
     }
     making_by false e is other empty never = record {
       finding = Other;
-      is = λ starts x. let u = turned_on (powered start starts (at s x)) in found_nonempty M tells.views v u other payload empty ∙ ap (λ (b : Bool). if b then u else unexplained v u) e;
+      is = λ starts x. let u = turned_on (powered start starts (at s x)) in found_nonempty M tells v u other payload empty ∙ ap (λ (b : Bool). if b then u else unexplained v u) e;
       lap_is = refl;
       clear = λ none. absurd (never (unforged forged s.forged none).1);
     }
@@ -190,7 +203,7 @@ module _ {V : Type 0} (M : Machine V) (tells : TellsApart M) (image : List ℕ) 
         subst (IsRead Making v) (sym found.1) (making_empty (one_view M image M.empty v found.0 shown))
     read_making lap (inr found) empty spelled fallen =
         subst (IsRead Making v) (sym found.1)
-        (making_by (M.same v s.view) refl (λ same. sym (tells.views.same_is v s.view payload spelled same)) (λ is. found.0 (shown ∙ ap Shows is)) empty
+        (making_by (M.same v s.view) refl (λ same. sym (tells.same_is v s.view payload spelled same)) (λ is. found.0 (shown ∙ ap Shows is)) empty
         (λ none. ⊎_elim (λ bad. never (sym shown ∙ bad_shows M image bad)) (λ is. found.0 is) (fallen none)))
       where
         never : Shows v ≡ Unreadable → ⊥

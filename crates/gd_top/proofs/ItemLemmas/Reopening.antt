@@ -10,7 +10,7 @@ use Rattle.gd_top.specs.Run.Openings.{Wanted, power_on, still_wanted}
 use Rattle.gd_top.specs.Run.State.{Flight}
 use Rattle.gd_top.specs.declared.halt.Halt.{Halt}
 use Rattle.gd_top.specs.declared.item.opening.Opened.{Opened}
-use Rattle.gd_top.proofs.RunLemmas.Parts.{broken_then, pending_then, unwritten_then}
+use Rattle.gd_top.proofs.RunLemmas.Parts.{broken_then, differing_then, pending_then, unwritten_then}
 use Rattle.gd_top.proofs.RunLemmas.Said.{moves_not}
 
 -- a count that rose later rose from before
@@ -87,6 +87,8 @@ module _ {V : Type 0} (was : Moment V) where
         broken_then M (power_on M B flight wanted) (power_on M B next wanted) s t (outside was) (outside mid) (outside now) now.disk p k
     opens_then (Err Halt.WriteFault) flight next wanted s t p k =
         unwritten_then M (power_on M B flight wanted) (power_on M B next wanted) s t (outside was) (outside mid) (outside now) now.disk p k
+    opens_then (Err Halt.SetupDiffers) flight next wanted s t p k =
+        (k.0, differing_then M (power_on M B flight wanted) (power_on M B next wanted) s t k.0 (outside was) (outside mid) (outside now) now.disk p k.1)
 
     module _ (ended : Result Opened Halt) (h : Opens false ended mid now) where
       carried_on : (flight : Flight) (wanted : Wanted) → IsWantedIn false flight wanted → (s : Standing V) → FitsDown flight s was → OpensTo ended flight wanted s was now
@@ -153,8 +155,9 @@ module _ {V : Type 0} (was : Moment V) where
     serves_not Halt.ReadFault stop read serves = read refl
     serves_not Halt.DiskFault stop read serves = serves
     serves_not Halt.WriteFault stop read serves = serves
+    serves_not Halt.SetupDiffers stop read serves = serves
 
-    -- or the disk or the sink failed
+    -- or the disk or the sink failed, or a memory of another setup was found
     pub in_vain : (halt : Halt) → Opens false (Err halt) mid now → Reopens (Err halt) was now
     in_vain halt h = record {
       carried = carried_on (Err halt) h;

@@ -14,7 +14,7 @@ use Rattle.gd_top.specs.Run.State.{State, Part, Outcome, Goes, Stops, Differs, B
 use Rattle.gd_top.specs.Script.Built.{built_line}
 use Rattle.gd_top.specs.declared.halt.Halt.{Halt}
 use Rattle.gd_top.specs.declared.script.reader.TheConstants.{MOST_LINES}
-use Rattle.gd_top.proofs.RunLemmas.Parts.{pending_of, pending_then}
+use Rattle.gd_top.proofs.RunLemmas.Parts.{differing_of, ended_of, pending_of, pending_then}
 use Rattle.gd_top.proofs.RunLemmas.Said.{carries_text, moves_on, as_at, ends_nowhere}
 
 -- a line more, where it was carried out
@@ -61,7 +61,7 @@ module _ {V : Type 0} (M : Machine V) where
   still_left : (o : Outcome) (t : Part V) (disk : DiskState) → t.outcome ≡ o → IsLeftBy M o t.state disk → (let u = goes_on o t one_more in IsLeftBy M u.outcome u.state disk)
   still_left Goes t disk is h = h
   still_left Stops t disk is h = subst (λ (o : Outcome). IsLeftBy M o t.state disk) (sym is) h
-  still_left Differs t disk is h = absurd h
+  still_left Differs t disk is h = subst (λ (o : Outcome). IsLeftBy M o t.state disk) (sym is) h
   still_left Breaks t disk is h = subst (λ (o : Outcome). IsLeftBy M o t.state disk) (sym is) h
 
   still_front : (taken given : Option (List ℕ)) (o : Outcome) (t : Part V) → AppendsFront taken given t.report → AppendsFront taken given (goes_on o t one_more).report
@@ -80,16 +80,8 @@ module _ {V : Type 0} (M : Machine V) where
       → CarriesBy r M (λ s. followed_by (f s) one_more) a (after_line r b) u v disk
   with_one_more (Ok done) f a b u v disk h =
       pending_then M (λ s. followed_by (f s) one_more) one_more _ a b (record b { lines = b.lines + 1 }) u v v (pending_of M f one_more a b u v h) (counts_one b v)
-  with_one_more (Err Halt.ScriptFault) f a b u v disk h = record {
-    since = h.since;
-    listed = h.listed;
-    fell = h.fell;
-    fallen = h.fallen;
-    report = h.report;
-    printed = h.printed;
-    moves = h.moves;
-    tells = λ x whole rise. ap (λ (t : Part V). followed_by t one_more) (h.tells x whole rise);
-  }
+  with_one_more (Err Halt.ScriptFault) f a b u v disk h = ended_of M Stops (λ t next. refl) f one_more a b u v h
+  with_one_more (Err Halt.SetupDiffers) f a b u v disk h = differing_of M f one_more a b u v disk h
   with_one_more (Err Halt.ReadFault) f a b u v disk h = absurd h
   with_one_more (Err Halt.DiskFault) f a b u v disk h =
       let k = h.ending in
@@ -147,6 +139,7 @@ module _ {V : Type 0} (M : Machine V) (B : Blocks) where
   counted_line (Err Halt.ReadFault) None a b u v disk few h = absurd h
   counted_line (Err Halt.DiskFault) None a b u v disk few h = h
   counted_line (Err Halt.WriteFault) None a b u v disk few h = h
+  counted_line (Err Halt.SetupDiffers) None a b u v disk few h = h
   counted_line r (Some item) a b u v disk few h =
       as_at M r (λ s. followed_by (item_meaning M B item s) one_more) (line_meaning M B (Some item)) a (after_line r b) u v disk
       (λ x. ap (λ (b : Bool). if b then followed_by (item_meaning M B item (at a x)) one_more else ends Stops [] (at a x)) (below a.lines MOST_LINES few))

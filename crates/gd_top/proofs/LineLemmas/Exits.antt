@@ -12,13 +12,13 @@ use Rattle.gd_top.specs.Code.LinesDone.{LinesSoFar, ScriptOf, CarriedScript, Car
 use Rattle.gd_top.specs.Code.Parts.{Outside, Carries, CarriesBy}
 use Rattle.gd_top.specs.Code.Standing.{Standing, Later, at}
 use Rattle.gd_top.specs.Run.Items.{item_meaning, line_meaning, lines_meaning, one_more}
-use Rattle.gd_top.specs.Run.State.{State, Part, Goes, Stops, ends, followed_by}
+use Rattle.gd_top.specs.Run.State.{State, Part, Outcome, Goes, Stops, Differs, ends, followed_by, goes_on}
 use Rattle.gd_top.specs.Script.LineTaken.{TakesLine, TakesEnd}
 use Rattle.gd_top.specs.Script.Lines.{Pieces, pieces_of, put_onto, put_by, HasNoEnd, line_of, rest_lines, lines_of_pieces, script_of, whole_lines, ShowsNoFault}
 use Rattle.gd_top.specs.declared.halt.Halt.{Halt}
 use Rattle.gd_top.specs.declared.script.reader.TheConstants.{MOST_LINES}
 use Rattle.gd_top.proofs.RunLemmas.Joins.{lines_append, goes_on_nothing}
-use Rattle.gd_top.proofs.RunLemmas.Parts.{pending_of, pending_then, then_by}
+use Rattle.gd_top.proofs.RunLemmas.Parts.{ended_of, pending_of, pending_then, then_by}
 use Rattle.gd_top.proofs.RunLemmas.Said.{as_at, pending_at, goes_here, stops_here}
 use Rattle.gd_top.proofs.ScriptLemmas.Reading.{nothing_waits, none_consumed, source_at_end}
 use Rattle.gd_top.proofs.ScriptLemmas.Scripts.{script_append, script_whole, script_line, script_cut, script_long, one_line_more, still_whole, still_rest, no_line_more}
@@ -86,26 +86,18 @@ module _ {V : Type 0} (M : Machine V) (B : Blocks) where
 
   -- ================ a line stops the run
 
-  first_stops : (b c : Standing V) (u v : Outside) (l : Option Item) (tail : List (Option Item)) → Carries M (line_meaning M B l) Stops b c u v → Carries M (lines_meaning M B (l ∷ tail)) Stops b c u v
-  first_stops b c u v l tail q = record {
-    since = q.since;
-    listed = q.listed;
-    fell = q.fell;
-    fallen = q.fallen;
-    report = q.report;
-    printed = q.printed;
-    moves = q.moves;
-    tells = λ x whole rise. ap (λ (t : Part V). followed_by t (λ s. lines_meaning M B tail s)) (q.tells x whole rise);
-  }
-
   -- the script goes on with it, whatever stands behind
-  stopped_at : (a b c : Standing V) (u v w : Outside) (lines : List (Option Item)) (script : List ℕ) (l : Option Item) (tail : List (Option Item))
-      → script_of script ≡ lines ++ (l ∷ tail) → Carries M (lines_meaning M B lines) Goes a b u v → Carries M (line_meaning M B l) Stops b c v w → Carries M (lines_meaning M B (script_of script)) Stops a c u w
-  stopped_at a b c u v w lines script l tail e h q =
+  ended_at : (o : Outcome) → ((t : Part V) (next : State V → Part V) → goes_on o t next ≡ t) → (a b c : Standing V) (u v w : Outside) (lines : List (Option Item)) (script : List ℕ) (l : Option Item) (tail : List (Option Item))
+      → script_of script ≡ lines ++ (l ∷ tail) → Carries M (lines_meaning M B lines) Goes a b u v → Carries M (line_meaning M B l) o b c v w → Carries M (lines_meaning M B (script_of script)) o a c u w
+  ended_at o stays a b c u v w lines script l tail e h q =
       pending_at M (λ s. followed_by (lines_meaning M B lines s) (λ s. lines_meaning M B (l ∷ tail) s)) (lines_meaning M B (script_of script)) _ a c u w
       (λ x. ap (λ (ls : List (Option Item)). lines_meaning M B ls (at a x)) e ∙ lines_append M B lines (l ∷ tail) (at a x))
       (pending_then M (λ s. followed_by (lines_meaning M B lines s) (λ s. lines_meaning M B (l ∷ tail) s)) (λ s. lines_meaning M B (l ∷ tail) s) _ a b c u v w
-      (pending_of M (lines_meaning M B lines) (λ s. lines_meaning M B (l ∷ tail) s) a b u v h) (first_stops b c v w l tail q))
+      (pending_of M (lines_meaning M B lines) (λ s. lines_meaning M B (l ∷ tail) s) a b u v h) (ended_of M o stays (line_meaning M B l) (λ s. lines_meaning M B tail s) b c v w q))
+
+  stopped_at : (a b c : Standing V) (u v w : Outside) (lines : List (Option Item)) (script : List ℕ) (l : Option Item) (tail : List (Option Item))
+      → script_of script ≡ lines ++ (l ∷ tail) → Carries M (lines_meaning M B lines) Goes a b u v → Carries M (line_meaning M B l) Stops b c v w → Carries M (lines_meaning M B (script_of script)) Stops a c u w
+  stopped_at a b c u v w lines script l tail e h q = ended_at Stops (λ t next. refl) a b c u v w lines script l tail e h q
 
   fault_here : (a : Standing V) (u : Outside) → Carries M (line_meaning M B None) Stops a a u u
   fault_here a u = stops_here M (line_meaning M B None) a u (λ x. refl)
@@ -113,6 +105,12 @@ module _ {V : Type 0} (M : Machine V) (B : Blocks) where
   -- ================ exits
 
   module _ (a b : Standing V) (u v : Outside) (left ahead later : Option (List ℕ)) (k : LinesSoFar M (lines_meaning M B) a b u v left ahead) where
+    -- the script, with the line that came last
+    with_line : (script rest line : List ℕ) → HasNoEnd line → script ≡ (k.came ++ (line ++ 10 ∷ [])) ++ rest → script_of script ≡ whole_lines k.came ++ (line_of line ∷ script_of rest)
+    with_line script rest line h is =
+        ap script_of (is ∙ (append_assoc k.came (line ++ 10 ∷ []) rest ∙ ap (λ (bs : List ℕ). k.came ++ bs) (append_assoc line (10 ∷ []) rest)))
+        ∙ (script_append k.came (line ++ 10 ∷ rest) k.whole ∙ ap (λ (ls : List (Option Item)). whole_lines k.came ++ ls) (script_line line rest h))
+
     -- a line ended the run
     pub line_ends : (r : Result (Unit {0}) Halt) (c : Standing V) (w : Outside) (disk : DiskState) (rest : Option (List ℕ)) (line : List ℕ) → is_err r ≡ true → HasNoEnd line → Consumes ahead later (line ++ 10 ∷ [])
         → CarriesBy r M (line_meaning M B (line_of line)) b c v w disk → DoneBy M B (lines_meaning M B) r a c u w disk left rest
@@ -121,11 +119,17 @@ module _ {V : Type 0} (M : Machine V) (B : Blocks) where
     line_ends (Err Halt.ScriptFault) c w disk rest line err h t q =
         let f = begun left later (k.came ++ (line ++ 10 ∷ [])) (Consumes-trans left ahead later k.came (line ++ 10 ∷ []) k.consumed t) in
         record { source = f.source; carried = stopped_at a b c u v w (whole_lines k.came) f.source.script (line_of line) (script_of f.rest) (with_line f.source.script f.rest line h f.whole) k.carried q }
-      where
-        with_line : (script rest line : List ℕ) → HasNoEnd line → script ≡ (k.came ++ (line ++ 10 ∷ [])) ++ rest → script_of script ≡ whole_lines k.came ++ (line_of line ∷ script_of rest)
-        with_line script rest line h is =
-            ap script_of (is ∙ (append_assoc k.came (line ++ 10 ∷ []) rest ∙ ap (λ (bs : List ℕ). k.came ++ bs) (append_assoc line (10 ∷ []) rest)))
-            ∙ (script_append k.came (line ++ 10 ∷ rest) k.whole ∙ ap (λ (ls : List (Option Item)). whole_lines k.came ++ ls) (script_line line rest h))
+    line_ends (Err Halt.SetupDiffers) c w disk rest line err h t q =
+        let f = begun left later (k.came ++ (line ++ 10 ∷ [])) (Consumes-trans left ahead later k.came (line ++ 10 ∷ []) k.consumed t) in
+        record {
+          source = f.source;
+          differing = record {
+            carried = ended_at Differs (λ t next. refl) a b c u v w (whole_lines k.came) f.source.script (line_of line) (script_of f.rest) (with_line f.source.script f.rest line h f.whole) k.carried q.carried;
+            armed = q.armed;
+            explained = q.explained;
+            left = q.left;
+          };
+        }
     line_ends (Err Halt.DiskFault) c w disk rest line err h t q =
         let f = begun left later (k.came ++ (line ++ 10 ∷ [])) (Consumes-trans left ahead later k.came (line ++ 10 ∷ []) k.consumed t) in
         record {
@@ -218,6 +222,7 @@ module _ {V : Type 0} (M : Machine V) (B : Blocks) where
   lines_halt Halt.ReadFault a b u v disk left ahead rest waits line k h short few empty t = lines_unread a b u v left ahead rest waits line k h short (inl few) (empty refl) t
   lines_halt Halt.DiskFault a b u v disk left ahead rest waits line k h short few empty t = absurd t
   lines_halt Halt.WriteFault a b u v disk left ahead rest waits line k h short few empty t = absurd t
+  lines_halt Halt.SetupDiffers a b u v disk left ahead rest waits line k h short few empty t = absurd t
 
   -- ================ past the last line that is allowed
 
@@ -252,3 +257,4 @@ module _ {V : Type 0} (M : Machine V) (B : Blocks) where
   lines_past (Err Halt.ReadFault) a b u v disk left ahead rest waits k full empty t = lines_unread a b u v left ahead rest waits [] k (All-nil (λ (c : ℕ). c ≢ 10)) (omega arith) (inr refl) (empty refl) t
   lines_past (Err Halt.DiskFault) a b u v disk left ahead rest waits k full empty t = absurd t
   lines_past (Err Halt.WriteFault) a b u v disk left ahead rest waits k full empty t = absurd t
+  lines_past (Err Halt.SetupDiffers) a b u v disk left ahead rest waits k full empty t = absurd t

@@ -113,7 +113,7 @@ module _ {V : Type 0} where
   recounted a b r n p = record {
     sits = λ serves.
         let s = p.sits serves in
-        record { tells = s.tells; size = s.size; power = s.power; runs = s.runs; same_lap = s.same_lap; laps = s.laps; falls = s.falls; counted = record { calls = s.counted.calls; waiting = s.counted.waiting; room = s.counted.room }; settled = s.settled; synced = s.synced };
+        record { tells = s.tells; given = s.given; size = s.size; power = s.power; runs = s.runs; same_lap = s.same_lap; laps = s.laps; falls = s.falls; counted = record { calls = s.counted.calls; waiting = s.counted.waiting; room = s.counted.room }; settled = s.settled; synced = s.synced };
     no_fault = p.no_fault;
     disk_fault = p.disk_fault;
     later = p.later;

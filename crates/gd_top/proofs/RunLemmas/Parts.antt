@@ -6,11 +6,11 @@ use Rattle.gd_base.specs.Outside.Causes.{AppendsFront}
 use Rattle.gd_base.specs.Judging.Machine.{Machine}
 use Rattle.gd_disk.specs.Disk.{DiskState}
 use Rattle.gd_top.specs.declared.halt.Halt.{Halt}
-use Rattle.gd_top.specs.Code.Parts.{Outside, Moves, Pending, Carries, CarriesBy, FoundSince, Ending, Broken, Unwritten}
+use Rattle.gd_top.specs.Code.Parts.{Outside, Moves, Pending, Carries, CarriesBy, Differing, FoundSince, Ending, Broken, Unwritten}
 use Rattle.gd_top.specs.Code.Standing.{Standing, Later, EndsInNone, at, finds, only}
 use Rattle.gd_top.specs.Run.Offers.{Rise}
 use Rattle.gd_top.specs.Run.Starts.{start_in, starts_in}
-use Rattle.gd_top.specs.Run.State.{Start, State, Part, Goes, before, followed_by}
+use Rattle.gd_top.specs.Run.State.{Start, State, Part, Outcome, Goes, Differs, before, followed_by, goes_on}
 use Rattle.gd_top.proofs.RunLemmas.Joins.{before_before}
 
 pub fewer : (b : Option ℕ) (m n : ℕ) → m ≤ n → EndsInNone b n → EndsInNone b m
@@ -98,6 +98,9 @@ module _ {V : Type 0} (M : Machine V) where
     left = k.left;
   }
 
+  pub differing_then : (f g : State V → Part V) (a b c : Standing V) (u v w : Outside) (disk : DiskState) → Pending M f g a b u v → Differing M g b c v w disk → Differing M f a c u w disk
+  differing_then f g a b c u v w disk p k = record { carried = pending_then f g _ a b c u v w p k.carried; armed = k.armed; explained = k.explained; left = k.left }
+
   pub unwritten_then : (f g : State V → Part V) (a b : Standing V) (u v w : Outside) (disk : DiskState) → Pending M f g a b u v → Unwritten M g b v w disk → Unwritten M f a u w disk
   unwritten_then f g a b u v w disk p k = record {
     ending = ending_then f g a b u v w p k.ending;
@@ -112,6 +115,24 @@ module _ {V : Type 0} (M : Machine V) where
   then_by (Err Halt.ReadFault) f g a b c u v w disk p k = absurd k
   then_by (Err Halt.DiskFault) f g a b c u v w disk p k = broken_then f g a b u v w disk p k
   then_by (Err Halt.WriteFault) f g a b c u v w disk p k = unwritten_then f g a b u v w disk p k
+  then_by (Err Halt.SetupDiffers) f g a b c u v w disk p k = differing_then f g a b c u v w disk p k
+
+  -- a part that ended the run, whatever follows it
+  pub ended_of : (o : Outcome) → ((t : Part V) (next : State V → Part V) → goes_on o t next ≡ t) → (f g : State V → Part V) (a b : Standing V) (u v : Outside) → Carries M f o a b u v → Carries M (λ s. followed_by (f s) g) o a b u v
+  ended_of o stays f g a b u v p = record {
+    since = p.since;
+    listed = p.listed;
+    fell = p.fell;
+    fallen = p.fallen;
+    report = p.report;
+    printed = p.printed;
+    moves = p.moves;
+    tells = λ x whole rise. ap (λ (t : Part V). followed_by t g) (p.tells x whole rise) ∙ stays (before p.report (record { report = []; state = at b x; outcome = o })) g;
+  }
+
+  -- where a memory of another setup was found
+  pub differing_of : (f g : State V → Part V) (a b : Standing V) (u v : Outside) (disk : DiskState) → Differing M f a b u v disk → Differing M (λ s. followed_by (f s) g) a b u v disk
+  differing_of f g a b u v disk k = record { carried = ended_of Differs (λ t next. refl) f g a b u v k.carried; armed = k.armed; explained = k.explained; left = k.left }
 
   -- a part that went on, and then what follows it
   abbrev pub pending_of : (f g : State V → Part V) (a b : Standing V) (u v : Outside) → Carries M f Goes a b u v → Pending M (λ s. followed_by (f s) g) g a b u v

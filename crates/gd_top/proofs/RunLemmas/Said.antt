@@ -6,7 +6,7 @@ use Rattle.gd_base.specs.Judging.Machine.{Machine}
 use Rattle.gd_base.specs.Outside.Causes.{AppendsFront}
 use Rattle.gd_disk.specs.Disk.{DiskState}
 use Rattle.gd_top.specs.Claims.MemoryLeft.{IsLeftIn}
-use Rattle.gd_top.specs.Code.Parts.{Outside, Moves, Pending, Carries, CarriesBy, FoundSince, Ending, Broken, Unwritten, GivesText}
+use Rattle.gd_top.specs.Code.Parts.{Outside, Moves, Pending, Carries, CarriesBy, Differing, FoundSince, Ending, Broken, Unwritten, GivesText}
 use Rattle.gd_top.specs.Code.Standing.{Standing, Later, EndsInNone, at, finds, only}
 use Rattle.gd_top.specs.Run.Offers.{Rise}
 use Rattle.gd_top.specs.Run.Starts.{starts_in}
@@ -35,6 +35,7 @@ unwritten_of (Err Halt.ScriptFault) u v text e gives = absurd gives
 unwritten_of (Err Halt.ReadFault) u v text e gives = absurd gives
 unwritten_of (Err Halt.DiskFault) u v text e gives = absurd gives
 unwritten_of (Err Halt.WriteFault) u v text e gives = (refl, gives)
+unwritten_of (Err Halt.SetupDiffers) u v text e gives = absurd gives
 
 pub written_of : (r : Result (Unit {0}) Halt) (u v : Option (List ℕ)) (text : List ℕ) → is_err r ≡ false → GivesText r u v text → Appends u v text
 written_of (Ok done) u v text e gives = gives
@@ -109,6 +110,7 @@ module _ {V : Type 0} (M : Machine V) where
   said_whole (Err Halt.ScriptFault) tell a b u v disk text found falls moves tells clear armed left gives = absurd gives
   said_whole (Err Halt.ReadFault) tell a b u v disk text found falls moves tells clear armed left gives = absurd gives
   said_whole (Err Halt.DiskFault) tell a b u v disk text found falls moves tells clear armed left gives = absurd gives
+  said_whole (Err Halt.SetupDiffers) tell a b u v disk text found falls moves tells clear armed left gives = absurd gives
   said_whole (Err Halt.WriteFault) tell a b u v disk text found falls moves tells clear armed left gives = record {
     ending = record {
       found = found_none u.found v.found found;
@@ -186,6 +188,9 @@ module _ {V : Type 0} (M : Machine V) where
   pub broken_at : (f g : State V → Part V) (a : Standing V) (u v : Outside) (disk : DiskState) → ((x : Later V) → g (at a x) ≡ f (at a x)) → Broken M f a u v disk → Broken M g a u v disk
   broken_at f g a u v disk same k = record { ending = ending_at f g a u v same k.ending; breaks = k.breaks; printed = k.printed; armed = k.armed; left = k.left }
 
+  pub differing_at : (f g : State V → Part V) (a b : Standing V) (u v : Outside) (disk : DiskState) → ((x : Later V) → g (at a x) ≡ f (at a x)) → Differing M f a b u v disk → Differing M g a b u v disk
+  differing_at f g a b u v disk same k = record { carried = pending_at f g _ a b u v same k.carried; armed = k.armed; explained = k.explained; left = k.left }
+
   pub unwritten_at : (f g : State V → Part V) (a : Standing V) (u v : Outside) (disk : DiskState) → ((x : Later V) → g (at a x) ≡ f (at a x)) → Unwritten M f a u v disk → Unwritten M g a u v disk
   unwritten_at f g a u v disk same k = record { ending = ending_at f g a u v same k.ending; printed = k.printed; armed = k.armed; left = k.left }
 
@@ -195,3 +200,4 @@ module _ {V : Type 0} (M : Machine V) where
   as_at (Err Halt.ReadFault) f g a b u v disk same h = absurd h
   as_at (Err Halt.DiskFault) f g a b u v disk same h = broken_at f g a u v disk same h
   as_at (Err Halt.WriteFault) f g a b u v disk same h = unwritten_at f g a u v disk same h
+  as_at (Err Halt.SetupDiffers) f g a b u v disk same h = differing_at f g a b u v disk same h

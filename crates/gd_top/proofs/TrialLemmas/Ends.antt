@@ -30,6 +30,7 @@ module _ (status : Status) (was now : Outer) where
   causes (Ok u) Off faults (inl is) le later read write disk = uncaused Status.Done is (λ e. cc e) (λ e. cc e) (λ e. cc e)
   causes (Ok u) Locked faults (inl is) le later read write disk = uncaused Status.Locked is (λ e. cc e) (λ e. cc e) (λ e. cc e)
   causes (Err Halt.ScriptFault) phase faults (inl is) le later read write disk = uncaused Status.ScriptFault is (λ e. cc e) (λ e. cc e) (λ e. cc e)
+  causes (Err Halt.SetupDiffers) phase faults (inl is) le later read write disk = uncaused Status.SetupDiffers is (λ e. cc e) (λ e. cc e) (λ e. cc e)
   causes (Err Halt.ReadFault) phase faults (inl is) le later read write disk =
       record { read = λ e. read refl; write = λ e. absurd (cc (is, e)); disk = λ e. absurd (cc (is, e)) }
   causes (Err Halt.DiskFault) phase faults (inl is) le later read write disk =
@@ -43,6 +44,7 @@ module _ {V : Type 0} (M : Machine V) (B : Blocks) (falls : List ℕ) (was now :
   carried_done Status.Done h = (refl, h)
   carried_done Status.ScriptFault h = (refl, h)
   carried_done Status.Locked h = (refl, h)
+  carried_done Status.SetupDiffers h = (refl, h)
   carried_done Status.ReadFault h = (refl, h)
   carried_done Status.DiskFault h = (refl, h)
   carried_done Status.WriteFault h = inr h

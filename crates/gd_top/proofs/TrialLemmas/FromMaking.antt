@@ -1,7 +1,7 @@
 -- The opening of a memory that was made, and then the lines.
 use Rattle.std.proofs.Common.{◌≡◌, ◌∙◌, ap, sym, subst, refl, ℕ, ◌≤◌, List, [], length, map, ◌⊎◌, inl, inr, true, false, arith, Option, None, Some, Result, Ok, Err, is_err}
 use Rattle.gd_base.specs.Judging.Machine.{Machine, Blocks}
-use Rattle.gd_base.specs.Laws.TellsViews.{HasPayload}
+use Rattle.gd_base.specs.Laws.TellsViews.{HasPayload, TellsViews}
 use Rattle.gd_cabinet.specs.Shown.{IsInBoth}
 use Rattle.gd_disk.specs.CutRuns.{FirstComes, IsCutOff, IsFaulted}
 use Rattle.gd_disk.specs.Disk.{DiskState}
@@ -10,20 +10,20 @@ use Rattle.gd_disk.specs.declared.disk.ArmedCut.{ArmedCut}
 use Rattle.gd_script.specs.declared.item.Item.{Item}
 use Rattle.gd_top.specs.Code.LinesDone.{DoneBy, LinesDone, RunBy, RunDone, ScriptOf, made_outside}
 use Rattle.gd_top.specs.Code.Falls.{AreCalls, AreWaiting, counts_calls}
-use Rattle.gd_top.specs.Code.Memory.{Moment, FitsDown, IsDown, IsFresh, IsMade, IsUnmade, Leaves, OpensTo, Reopens, Serves, TellsApart, as_opened, begun, outside, stands_with}
+use Rattle.gd_top.specs.Code.Memory.{Moment, FitsDown, IsDown, IsFresh, IsMade, IsUnmade, Leaves, OpensTo, Reopens, Serves, as_opened, begun, outside, stands_with}
 use Rattle.gd_top.specs.Code.Parts.{Outside, Carries, CarriesBy, Pending}
 use Rattle.gd_top.specs.Code.Standing.{Standing, at, first_standing}
 use Rattle.gd_top.specs.Run.Items.{lines_meaning}
 use Rattle.gd_top.specs.Run.Life.{run_meaning}
 use Rattle.gd_top.specs.Run.Offers.{syncs_of_making}
 use Rattle.gd_top.specs.Run.Openings.{Done, power_on}
-use Rattle.gd_top.specs.Run.State.{Phase, On, Off, Locked, is_powered, Nothing, Goes, Stops}
+use Rattle.gd_top.specs.Run.State.{Phase, On, Off, Locked, is_powered, Nothing, Goes, Stops, Differs}
 use Rattle.gd_top.specs.Script.Lines.{script_of, whole_lines}
 use Rattle.gd_top.specs.declared.halt.Halt.{Halt}
 use Rattle.gd_top.proofs.ItemLemmas.Images.{unmasked}
 use Rattle.gd_top.proofs.LineLemmas.Alike.{blocks_are}
 use Rattle.gd_top.proofs.RunLemmas.Joins.{goes_on_nothing}
-use Rattle.gd_top.proofs.RunLemmas.Parts.{pending_of, pending_then, broken_then}
+use Rattle.gd_top.proofs.RunLemmas.Parts.{differing_of, pending_of, pending_then, broken_then}
 use Rattle.gd_top.proofs.RunLemmas.Said.{broken_at}
 
 module _ {V : Type 0} (M : Machine V) (B : Blocks) where
@@ -59,6 +59,15 @@ module _ {V : Type 0} (M : Machine V) (B : Blocks) where
       carried = carried_run Goes k.earlier k.stands k.between k.carried;
       unwritten = k.unwritten;
     })
+    lines_run (Err Halt.SetupDiffers) c w disk left rest k = record {
+      source = k.source;
+      differing = record {
+        carried = carried_run Differs (script_of k.source.script) c w k.differing.carried;
+        armed = k.differing.armed;
+        explained = k.differing.explained;
+        left = k.differing.left;
+      };
+    }
 
   -- the opening ended the run
   pub opening_ends : (r : Result (Unit {0}) Halt) (a b : Standing V) (u v : Outside) (disk : DiskState) (left rest : Option (List ℕ)) (source : ScriptOf left) → is_err r ≡ true → (r ≡ Err Halt.ScriptFault → ⊥)
@@ -73,6 +82,8 @@ module _ {V : Type 0} (M : Machine V) (B : Blocks) where
     broken = broken_at M (power_on M B Nothing Done) (run_meaning M B []) a u v disk (λ x. goes_on_nothing (power_on M B Nothing Done (at a x))) k;
   }
   opening_ends (Err Halt.WriteFault) a b u v disk left rest source err not_stop k = inl k
+  opening_ends (Err Halt.SetupDiffers) a b u v disk left rest source err not_stop k =
+      record { source = source; differing = differing_of M (power_on M B Nothing Done) (λ u. lines_meaning M B (script_of source.script) u) a b u v disk k }
 
 -- some script of a source
 pub any_script : (left : Option (List ℕ)) → ScriptOf left
@@ -93,14 +104,16 @@ stands_in_none (Err Halt.ScriptFault) s was now err q serves = q
 stands_in_none (Err Halt.ReadFault) s was now err q serves = q
 stands_in_none (Err Halt.DiskFault) s was now err q serves = serves
 stands_in_none (Err Halt.WriteFault) s was now err q serves = serves
+stands_in_none (Err Halt.SetupDiffers) s was now err q serves = serves
 
-ends_by : {V : Type 0} (r : Result (Unit {0}) Halt) (s t : Standing V) (was now : Moment V) → is_err r ≡ true → OpensTo (as_opened r) Nothing Done s was now
-    → CarriesBy r was.machine (power_on was.machine was.blocks Nothing Done) s t (outside was) (outside now) now.disk
-ends_by (Ok done) s t was now err q = absurd (cc err)
-ends_by (Err Halt.ScriptFault) s t was now err q = absurd q
-ends_by (Err Halt.ReadFault) s t was now err q = absurd q
-ends_by (Err Halt.DiskFault) s t was now err q = q
-ends_by (Err Halt.WriteFault) s t was now err q = q
+ends_by : {V : Type 0} (r : Result (Unit {0}) Halt) (s : Standing V) (was now : Moment V) → is_err r ≡ true → OpensTo (as_opened r) Nothing Done s was now
+    → (t : Standing V) × CarriesBy r was.machine (power_on was.machine was.blocks Nothing Done) s t (outside was) (outside now) now.disk
+ends_by (Ok done) s was now err q = absurd (cc err)
+ends_by (Err Halt.ScriptFault) s was now err q = absurd q
+ends_by (Err Halt.ReadFault) s was now err q = absurd q
+ends_by (Err Halt.DiskFault) s was now err q = (s, q)
+ends_by (Err Halt.WriteFault) s was now err q = (s, q)
+ends_by (Err Halt.SetupDiffers) s was now err q = q
 
 module _ {V : Type 0} (was made : Moment V) (machine : made.machine ≡ was.machine) (blocks : (lap index : ℕ) → made.blocks lap index ≡ was.blocks lap index) (is : outside made ≡ made_outside was) where
   -- the machine, the blocks and the outside are those from before the making
@@ -116,11 +129,12 @@ module _ {V : Type 0} (was made : Moment V) (machine : made.machine ≡ was.mach
     run_ends r now opens err =
         let first = first_standing made.machine in
         let q = opens.carried Nothing Done (refl, refl) first fits in
+        let k = ends_by r first made now err q in
         inr (
-          first,
+          k.0,
           (λ serves. absurd (stands_in_none r first made now err q serves)),
-          from_before r first (outside now) now.disk left rest
-              (opening_ends made.machine made.blocks r first first (outside made) (outside now) now.disk left rest (any_script left) err opens.no_stop (ends_by r first first made now err q)),
+          from_before r k.0 (outside now) now.disk left rest
+              (opening_ends made.machine made.blocks r first k.0 (outside made) (outside now) now.disk left rest (any_script left) err opens.no_stop k.1),
         )
 
     pub run_goes : (opened r : Result (Unit {0}) Halt) (mid now : Moment V) → Reopens opened made mid → opened ≡ Ok tt → LinesDone r mid now left rest → RunDone r was now left rest
@@ -180,9 +194,13 @@ module _ {V : Type 0} (was made : Moment V) (unarmed : was.disk.armed ≡ []) (m
           explained = λ none. (refl, refl);
         }
 
-    pub made_down : TellsApart was.machine → IsDown made
-    made_down tells = record {
-      tells = subst TellsApart (sym machine) tells;
+    given_as : made.counts.given ≡ was.machine.digest → made.counts.given ≡ made.machine.digest
+    given_as given = given ∙ sym (ap (λ m. m.digest) machine)
+
+    pub made_down : TellsViews was.machine → made.counts.given ≡ was.machine.digest → IsDown made
+    made_down tells given = record {
+      tells = subst TellsViews (sym machine) tells;
+      given = given_as given;
       size = h.size;
       is_off = h.is_off;
       laps = omega (arith, fresh.lap);
@@ -193,10 +211,11 @@ module _ {V : Type 0} (was made : Moment V) (unarmed : was.disk.armed ≡ []) (m
     }
 
     -- what the making leaves
-    pub made_leaves : ((lap index : ℕ) → made.blocks lap index ≡ was.blocks lap index) → TellsApart was.machine → made.phase ≡ Off → made.is_stopped ≡ false → made.faults ≡ was.faults → Leaves (Ok tt) was made
-    made_leaves blocks tells off runs faults = record {
+    pub made_leaves : ((lap index : ℕ) → made.blocks lap index ≡ was.blocks lap index) → TellsViews was.machine → made.counts.given ≡ was.machine.digest → made.phase ≡ Off → made.is_stopped ≡ false → made.faults ≡ was.faults → Leaves (Ok tt) was made
+    made_leaves blocks tells given off runs faults = record {
       sits = λ serves. record {
-        tells = subst TellsApart (sym machine) tells;
+        tells = subst TellsViews (sym machine) tells;
+        given = given_as given;
         size = h.size;
         power = h.is_off ∙ ap is_powered (sym off);
         runs = runs;

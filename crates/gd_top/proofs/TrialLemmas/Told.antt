@@ -11,7 +11,7 @@ use Rattle.gd_top.specs.Code.Memory.{Moment, Fits, IsKnownIn, Leaves, Serves, Si
 use Rattle.gd_top.specs.Code.Standing.{Standing, at, only, first_standing}
 use Rattle.gd_top.specs.Run.Life.{end_line, end_status}
 use Rattle.gd_top.specs.Run.Offers.{AreArmed}
-use Rattle.gd_top.specs.Run.State.{Phase, On, Off, Locked, Goes, Stops, is_powered}
+use Rattle.gd_top.specs.Run.State.{Phase, On, Off, Locked, Goes, Stops, Differs, is_powered}
 use Rattle.gd_top.specs.declared.halt.Halt.{Halt}
 use Rattle.gd_top.specs.declared.status.Status.{Status}
 use Rattle.gd_top.proofs.RunLemmas.Cuts.{armed_length}
@@ -138,6 +138,13 @@ module _ {V : Type 0} (was now : Moment V) (left rest gave : Option (List ℕ)) 
       (front_to_fault M was.blocks old new now.taken falls t k f.explained (as_many t f s same d) (read refl) last.1 (holds t f s same d))
   done_by (Err Halt.DiskFault) t status k fits sits rested same read broke (inl last) = by_status Status.DiskFault status last.0 (wrote_broken M was.blocks old new now.taken falls k last.1)
   done_by (Err Halt.DiskFault) t status k fits sits rested same read broke (inr last) = by_status Status.WriteFault status last.0 (front_broken M was.blocks old new now.taken falls k (broke refl) last.1)
+  done_by (Err Halt.SetupDiffers) t status k fits sits rested same read broke (inl last) =
+      let d = k.differing in
+      by_status Status.SetupDiffers status last.0 (wrote_report M was.blocks old new now.taken falls Differs t k.source d.carried d.armed d.explained Status.SetupDiffers refl last.1 d.left)
+  done_by (Err Halt.SetupDiffers) t status k fits sits rested same read broke (inr last) =
+      let d = k.differing in
+      by_status Status.WriteFault status last.0
+      (front_report M was.blocks old new now.taken falls Differs t k.source d.carried d.armed d.explained (armed_length t.armed now.disk.armed d.armed) (λ is. cc is) last.1 d.left)
   done_by (Err Halt.WriteFault) t status (inl k) fits sits rested same read broke last =
       by_status Status.WriteFault status (write_fault status now.taken gave [] last) (front_opening M was.blocks old new now.taken falls k (nothing_given Status.WriteFault status now.taken gave last))
   done_by (Err Halt.WriteFault) t status (inr k) fits sits rested same read broke last =

@@ -5,7 +5,7 @@ use Rattle.std.specs.Io.KnownBytes.{Appends, Consumes}
 use Rattle.gd_base.specs.Outside.Causes.{AppendsFront, Rose}
 use Rattle.gd_base.specs.Judging.Machine.{Machine, Blocks}
 use Rattle.gd_script.specs.declared.item.Item.{Item}
-use Rattle.gd_top.specs.Claims.MemoryLeft.{IsLeft, IsLeftAt, first_syncs}
+use Rattle.gd_top.specs.Claims.MemoryLeft.{IsLeft, IsLeftAfter, IsLeftAt, first_syncs}
 use Rattle.gd_top.specs.Claims.OneHistory.{HasLegalHistory}
 use Rattle.gd_top.specs.Claims.Trial.{Outer, IsWhole, WroteReport, WroteToFault, FirstLines, WroteBroken, WroteFront, IsLastLine}
 use Rattle.gd_top.specs.Code.LinesDone.{ScriptOf, CarriedTaken, BrokenIn, UnwrittenIn}
@@ -85,7 +85,7 @@ module _ {V : Type 0} (M : Machine V) (B : Blocks) where
           ∙ ap (λ (fs : List ℕ). trial_meaning M B lines fs (starts_in M k.since) None) (append-nil k.fell ∙ sym k.fallen)
           ∙ ap (λ (images : List (List ℕ)). trial_meaning M B lines falls (starts_in M images) None) (sym k.listed)
 
-      whole : AreArmed t.armed now.disk.armed → (t.forged ≡ 0 → (t.other_views ≡ 0) × (t.other_locks ≡ 0)) → IsLeft M (at t (only [] [] None)) now.disk → IsWhole M B run was now
+      whole : AreArmed t.armed now.disk.armed → (t.forged ≡ 0 → (t.other_views ≡ 0) × (t.other_locks ≡ 0)) → IsLeftAfter M o (at t (only [] [] None)) now.disk → IsWhole M B run was now
       whole armed explained left = record {
         legal = legal_at run lines falls (starts_in M now.disk.found) None run_is;
         used_up = (refl, refl);
@@ -133,7 +133,7 @@ module _ {V : Type 0} (M : Machine V) (B : Blocks) where
 
     module _ (o : Outcome) (t : Standing V) (source : ScriptOf was.left) (k : Carries M (run_meaning M B (script_of source.script)) o first t made ended)
         (armed : AreArmed t.armed now.disk.armed) (explained : t.forged ≡ 0 → (t.other_views ≡ 0) × (t.other_locks ≡ 0)) where
-      pub wrote_report : (status : Status) → status_of o (at t (only [] [] None)) ≡ status → Appends mid now.taken (last_line M o (at t (only [] [] None))) → IsLeft M (at t (only [] [] None)) now.disk
+      pub wrote_report : (status : Status) → status_of o (at t (only [] [] None)) ≡ status → Appends mid now.taken (last_line M o (at t (only [] [] None))) → IsLeftAfter M o (at t (only [] [] None)) now.disk
           → WroteReport M B status falls was now
       wrote_report status is last left = record {
         script = source.script;

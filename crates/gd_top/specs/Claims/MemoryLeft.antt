@@ -1,7 +1,7 @@
 -- What the memory holds at an end, against what is told.
-use Rattle.std.specs.Prelude.{◌≡◌, ◌⊎◌, ℕ, ◌≤◌, List, [], ◌∷◌, ◌++◌, length}
+use Rattle.std.specs.Prelude.{◌≡◌, ◌⊎◌, ℕ, ◌≤◌, true, List, [], ◌∷◌, ◌++◌, length}
 use Rattle.gd_base.specs.Judging.Machine.{Machine}
-use Rattle.gd_base.specs.Payloads.Spelled.{Shows, Unreadable}
+use Rattle.gd_base.specs.Payloads.Spelled.{Spelled, Shows, Foreign, Unreadable}
 use Rattle.gd_cabinet.specs.Shown.{shows, ShowsEither, IsInBoth}
 use Rattle.gd_disk.specs.Disk.{DiskState, IsSynced}
 use Rattle.gd_store.specs.Making.{IsMaking}
@@ -24,13 +24,24 @@ pub record IsMasked {V : Type 0} (M : Machine V) (v : V) (masks : List Mask) (im
   pub both : IsInBoth M v whole
   pub altered : image ≡ masked LAYOUT masks whole
 
--- the memory stands locked: it is the image that was found last, byte for byte
-pub record IsShut {V : Type 0} (M : Machine V) (disk : DiskState) : Type 0 where
+-- the memory is the image that was found last, byte for byte, and this one shows no view under the given setup
+pub record IsShutOver {V : Type 0} (M : Machine V) (shown : Spelled V) (disk : DiskState) : Type 0 where
   pub image : List ℕ
   pub earlier : List (List ℕ)
   pub last : disk.found ≡ earlier ++ image ∷ []
   pub only : (c : List ℕ) → disk.may_find c → c ≡ image
-  pub shut : shows M image ≡ Unreadable
+  pub shut : shows M image ≡ shown
+
+-- the memory stands locked
+abbrev pub IsShut : {V : Type 0} → Machine V → DiskState → Type 0
+IsShut M disk = IsShutOver M Unreadable disk
+
+-- the memory was made under another setup: nothing was written to it, and the power is on
+pub record IsOfAnother {V : Type 0} (M : Machine V) (disk : DiskState) : Type 0 where
+  pub kept : List ℕ
+  pub shut : IsShutOver M (Foreign kept) disk
+  pub is_on : disk.is_on ≡ true
+  pub synced : IsSynced disk
 
 -- what each image that may be found holds, by the phase
 abbrev pub IsLeftIn : {V : Type 0} → Machine V → Phase → V → List Mask → DiskState → Type 0
@@ -53,6 +64,13 @@ pub record IsLeft {V : Type 0} (M : Machine V) (s : State V) (disk : DiskState) 
   pub power : disk.is_on ≡ is_powered s.phase
   pub holds : IsLeftIn M s.phase s.view s.masks disk
   pub at_rest : IsAtRest s.phase disk
+
+-- and by how the run ended, where it was not broken off
+abbrev pub IsLeftAfter : {V : Type 0} → Machine V → Outcome → State V → DiskState → Type 0
+IsLeftAfter M Goes s disk = IsLeft M s disk
+IsLeftAfter M Stops s disk = IsLeft M s disk
+IsLeftAfter M Differs s disk = IsOfAnother M disk
+IsLeftAfter M Breaks s disk = ⊥
 
 -- ================ where the disk or the sink failed
 
@@ -83,7 +101,7 @@ abbrev pub IsLeftBy : {V : Type 0} → Machine V → Outcome → State V → Dis
 IsLeftBy M Breaks s disk = IsLeftBroken M s disk
 IsLeftBy M Goes s disk = IsLeftIn M s.phase s.view s.masks disk
 IsLeftBy M Stops s disk = IsLeftIn M s.phase s.view s.masks disk
-IsLeftBy M Differs s disk = ⊥
+IsLeftBy M Differs s disk = IsOfAnother M disk
 
 abbrev pub IsLeftAt : {V : Type 0} → Machine V → Part V → DiskState → Type 0
 IsLeftAt M t disk = IsLeftBy M t.outcome t.state disk

@@ -8,7 +8,7 @@ use Rattle.gd_base.specs.Outside.Causes.{AppendsFront, Rose}
 use Rattle.gd_base.specs.Judging.Machine.{Machine, Blocks}
 use Rattle.gd_disk.specs.Disk.{DiskState}
 use Rattle.gd_script.specs.declared.item.Item.{Item}
-use Rattle.gd_top.specs.Claims.MemoryLeft.{IsExplained, IsLeft, IsLeftAt, IsLeftBroken, first_syncs}
+use Rattle.gd_top.specs.Claims.MemoryLeft.{IsExplained, IsLeftAfter, IsLeftAt, IsLeftBroken, first_syncs}
 use Rattle.gd_top.specs.Claims.OneHistory.{HasLegalHistory}
 use Rattle.gd_top.specs.Run.Life.{trial_meaning, report_of, report_at_read_fault, status_of, end_line, end_status, last_line}
 use Rattle.gd_top.specs.Run.Offers.{AreArmed}
@@ -40,10 +40,10 @@ pub record IsWhole {V : Type 0} (M : Machine V) (B : Blocks) (run : Part V) (was
   pub armed : AreArmed run.state.armed now.disk.armed
   pub synced : run.state.fell ≡ 0 → now.disk.syncs ≡ was.disk.syncs + first_syncs + run.state.syncs
   pub explained : IsExplained run.state
-  pub left : IsLeft M run.state now.disk
+  pub left : IsLeftAfter M run.outcome run.state now.disk
 
--- 0, 6 and 7: the whole report of a script was written, with its last line, and the run is told to end with this status. The script
--- is that of the source, where it tells one.
+-- 0, 6, 7 and 11: the whole report of a script was written, with its last line, and the run is told to end with this status. The
+-- script is that of the source, where it tells one.
 pub record WroteReport {V : Type 0} (M : Machine V) (B : Blocks) (status : Status) (falls : List ℕ) (was now : Outer) : Type 0 where
   pub script : List ℕ
   pub of_source : IfSome was.left (λ bytes. bytes ≡ script)
@@ -129,6 +129,7 @@ abbrev pub TrialDone : {V : Type 0} → Machine V → Blocks → Status → List
 TrialDone M B Status.Done falls was now = WroteReport M B Status.Done falls was now × IsAtEnd now.left
 TrialDone M B Status.ScriptFault falls was now = WroteReport M B Status.ScriptFault falls was now
 TrialDone M B Status.Locked falls was now = WroteReport M B Status.Locked falls was now × IsAtEnd now.left
+TrialDone M B Status.SetupDiffers falls was now = WroteReport M B Status.SetupDiffers falls was now
 TrialDone M B Status.ReadFault falls was now = WroteToFault M B falls was now
 TrialDone M B Status.DiskFault falls was now = WroteBroken M B falls was now
 TrialDone M B Status.WriteFault falls was now = WroteFront M B falls was now
@@ -148,18 +149,21 @@ halt_status Halt.ScriptFault = Status.ScriptFault
 halt_status Halt.ReadFault = Status.ReadFault
 halt_status Halt.DiskFault = Status.DiskFault
 halt_status Halt.WriteFault = Status.WriteFault
+halt_status Halt.SetupDiffers = Status.SetupDiffers
 
 abbrev pub status_after : Result (Unit {0}) Halt → Phase → Status
 status_after (Ok done) phase = end_status phase
 status_after (Err halt) phase = halt_status halt
 
--- by how the run ended, with so many lines carried out; where the sink failed there is none
+-- by how the run ended, with so many lines carried out; where the sink failed there is none, and that of a setup that differs was
+-- printed by the opening
 abbrev pub last_text : {V : Type 0} → Machine V → Result (Unit {0}) Halt → Phase → V → ℕ → List ℕ
 last_text M (Ok done) phase v lines = end_line M phase v
 last_text M (Err Halt.ScriptFault) phase v lines = codes "line " ++ decimal (lines + 1) ++ codes "\n"
 last_text M (Err Halt.ReadFault) phase v lines = codes "read fault\n"
 last_text M (Err Halt.DiskFault) phase v lines = codes "disk fault\n"
 last_text M (Err Halt.WriteFault) phase v lines = []
+last_text M (Err Halt.SetupDiffers) phase v lines = []
 
 -- the last line was given whole, or else a front of it
 abbrev pub GivesLast : (status result : Status) → (taken given : Option (List ℕ)) → List ℕ → Type 0
@@ -208,6 +212,7 @@ IsBuilt Status.DiskFault = Unit {0}
 IsBuilt Status.ScriptFault = Unit {0}
 IsBuilt Status.Locked = Unit {0}
 IsBuilt Status.OutOfMemory = Unit {0}
+IsBuilt Status.SetupDiffers = Unit {0}
 IsBuilt _ = ⊥
 
 -- a trial that no fault of the outside ended ends with one of these
@@ -215,6 +220,7 @@ abbrev pub IsEnd : Status → Type 0
 IsEnd Status.Done = Unit {0}
 IsEnd Status.ScriptFault = Unit {0}
 IsEnd Status.Locked = Unit {0}
+IsEnd Status.SetupDiffers = Unit {0}
 IsEnd _ = ⊥
 
 -- how the definition says that a trial of this script ends, over what was found and what fell

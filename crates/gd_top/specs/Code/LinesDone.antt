@@ -6,7 +6,7 @@ use Rattle.gd_disk.specs.Disk.{DiskState}
 use Rattle.gd_script.specs.declared.item.Item.{Item}
 use Rattle.gd_top.specs.Claims.MemoryLeft.{first_syncs}
 use Rattle.gd_top.specs.Code.Memory.{Moment, Fits, Serves, outside}
-use Rattle.gd_top.specs.Code.Parts.{Outside, Carries, Broken, Unwritten}
+use Rattle.gd_top.specs.Code.Parts.{Outside, Carries, Broken, Differing, Unwritten}
 use Rattle.gd_top.specs.Code.Standing.{Standing, first_standing}
 use Rattle.gd_top.specs.Run.Items.{line_meaning, lines_meaning}
 use Rattle.gd_top.specs.Run.Life.{run_meaning}
@@ -45,6 +45,11 @@ pub record CarriedTaken {V : Type 0} (M : Machine V) (tell : Telling V) (was sta
   pub faultless : ShowsNoFault came stands.lines
   pub carried : Carries M (tell (whole_lines came)) Goes was stands old new
 
+-- a whole script was carried out, up to where a memory of another setup was found
+pub record DifferingIn {V : Type 0} (M : Machine V) (tell : Telling V) (was stands : Standing V) (old new : Outside) (disk : DiskState) (left : Option (List ℕ)) : Type 0 where
+  pub source : ScriptOf left
+  pub differing : Differing M (tell (script_of source.script)) was stands old new disk
+
 -- The first lines of a script were carried out, in the last of which the disk failed.
 pub record BrokenIn {V : Type 0} (M : Machine V) (tell : Telling V) (was : Standing V) (old new : Outside) (disk : DiskState) (left : Option (List ℕ)) : Type 0 where
   pub source : ScriptOf left
@@ -71,6 +76,7 @@ DoneBy M B tell (Err Halt.ScriptFault) was stands old new disk left rest = Carri
 DoneBy M B tell (Err Halt.ReadFault) was stands old new disk left rest = CarriedTaken M tell was stands old new left rest
 DoneBy M B tell (Err Halt.DiskFault) was stands old new disk left rest = BrokenIn M tell was old new disk left
 DoneBy M B tell (Err Halt.WriteFault) was stands old new disk left rest = UnwrittenIn M B tell was old new disk left
+DoneBy M B tell (Err Halt.SetupDiffers) was stands old new disk left rest = DifferingIn M tell was stands old new disk left
 
 -- the lines, once the memory is open, in each standing that fits
 abbrev pub LinesDone : {V : Type 0} → Result (Unit {0}) Halt → (was now : Moment V) → (left rest : Option (List ℕ)) → Type 0

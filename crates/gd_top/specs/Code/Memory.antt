@@ -4,7 +4,7 @@ use Rattle.std.specs.Prelude.{◌≡◌, ◌⊎◌, ◌≤◌, ◌<◌, ◌+◌,
 use Rattle.gd_base.specs.Laws.TellsViews.{HasPayload, TellsViews}
 use Rattle.gd_base.specs.Outside.Causes.{Rose}
 use Rattle.gd_base.specs.Judging.Machine.{Machine, Blocks}
-use Rattle.gd_base.specs.Payloads.Spelled.{Foreign, Shows}
+use Rattle.gd_base.specs.Payloads.Spelled.{Shows}
 use Rattle.gd_cabinet.specs.Cabinet.{cabinet_core, cabinet_disk, cabinet_draws, cabinet_lap, cabinet_stopped}
 use Rattle.gd_cabinet.specs.Shown.{IsInBoth, shows}
 use Rattle.gd_cabinet.specs.declared.cabinet.Cabinet.{Cabinet}
@@ -21,7 +21,7 @@ use Rattle.gd_store.specs.Writing.{From}
 use Rattle.gd_store.specs.declared.copy.layout.TheConstants.{LAYOUT}
 use Rattle.gd_top.specs.Claims.MemoryLeft.{IsExplained, IsLeftIn, IsNear, IsOfMaking, IsSettled, first_syncs}
 use Rattle.gd_top.specs.Code.Falls.{AreCalls, AreWaiting}
-use Rattle.gd_top.specs.Code.Parts.{Outside, Pending, Broken, Unwritten, CarriesBy}
+use Rattle.gd_top.specs.Code.Parts.{Outside, Pending, Broken, Differing, Unwritten, CarriesBy}
 use Rattle.gd_top.specs.Code.Standing.{Standing, at, only}
 use Rattle.gd_top.specs.Run.Offers.{AreArmed, syncs_of_making}
 use Rattle.gd_top.specs.Run.Openings.{Wanted, Cleared, locked_with, power_on, resumed, still_wanted}
@@ -130,11 +130,6 @@ outside m = record { found = m.disk.found; taken = m.taken; falls = m.counts.fal
 
 -- ================ what the code relies on
 
--- the test on two views tells them apart, and no payload is one of another setup
-pub record TellsApart {V : Type 0} (M : Machine V) : Type 0 where
-  pub views : TellsViews M
-  pub no_other : (payload kept : List ℕ) → M.spelled payload ≡ Foreign kept → ⊥
-
 -- of what begins with a power-on, a lap or a fall, so many have begun: with the power on there is one more
 abbrev pub begun : Phase → ℕ → ℕ
 begun On n = n + 1
@@ -147,9 +142,10 @@ pub record AreCounted (k : Counts) (armed : List ArmedCut) : Type 0 where
   pub waiting : AreWaiting armed
   pub room : k.power_ons + length armed ≤ MOST_POWER_ONS
 
--- Between two lines. With the memory closed and no cut in a commit, a power-on finds one image.
+-- Between two lines. The code has the digest of the setup. With the memory closed and no cut in a commit, a power-on finds one image.
 pub record Sits {V : Type 0} (m : Moment V) : Type 0 where
-  pub tells : TellsApart m.machine
+  pub tells : TellsViews m.machine
+  pub given : m.counts.given ≡ m.machine.digest
   pub size : m.disk.size ≡ DISK_LEN
   pub power : m.disk.is_on ≡ is_powered m.phase
   pub runs : m.is_stopped ≡ false
@@ -195,7 +191,8 @@ pub record IsFresh (k : Counts) : Type 0 where
 
 -- with the power off, and room for one power-on more
 pub record IsDown {V : Type 0} (m : Moment V) : Type 0 where
-  pub tells : TellsApart m.machine
+  pub tells : TellsViews m.machine
+  pub given : m.counts.given ≡ m.machine.digest
   pub size : m.disk.size ≡ DISK_LEN
   pub is_off : m.disk.is_on ≡ false
   pub laps : m.counts.lap ≤ m.counts.power_ons
@@ -258,13 +255,14 @@ pub record IsUnmade {V : Type 0} (M : Machine V) (v : V) (old left : DiskState) 
 
 -- ================ what a part of the code leaves
 
--- the memory stands after it: neither the disk nor the sink failed
+-- the memory stands after it: neither the disk nor the sink failed, nor was it made under another setup
 abbrev pub Serves : Result (Unit {0}) Halt → Type 0
 Serves (Ok done) = Unit {0}
 Serves (Err Halt.ScriptFault) = Unit {0}
 Serves (Err Halt.ReadFault) = Unit {0}
 Serves (Err Halt.DiskFault) = ⊥
 Serves (Err Halt.WriteFault) = ⊥
+Serves (Err Halt.SetupDiffers) = ⊥
 
 -- What holds after a part whatever it was told to do: what the next part relies on, the causes of faults, and what no part changes.
 pub record Leaves {V : Type 0} (ended : Result (Unit {0}) Halt) (was now : Moment V) : Type 0 where
@@ -315,6 +313,8 @@ OpensTo (Err Halt.ScriptFault) flight wanted s was now = ⊥
 OpensTo (Err Halt.ReadFault) flight wanted s was now = ⊥
 OpensTo (Err Halt.DiskFault) flight wanted s was now = Broken was.machine (power_on was.machine was.blocks flight wanted) s (outside was) (outside now) now.disk
 OpensTo (Err Halt.WriteFault) flight wanted s was now = Unwritten was.machine (power_on was.machine was.blocks flight wanted) s (outside was) (outside now) now.disk
+OpensTo {V} (Err Halt.SetupDiffers) flight wanted s was now =
+    (t : Standing V) × Differing was.machine (power_on was.machine was.blocks flight wanted) s t (outside was) (outside now) now.disk
 
 -- one opening: what it did, what it leaves, and how many offers it made
 pub record Opens {V : Type 0} (making : Bool) (ended : Result Opened Halt) (was now : Moment V) : Type 0 where
@@ -361,7 +361,7 @@ unless_failed (Err halt) next = Err halt
 -- the lap after the copies were read: with a making in flight it is raised where the empty memory is found
 abbrev pub IsLapFound : {V : Type 0} → Bool → Machine V → DiskState → (old new : ℕ) → Type 0
 IsLapFound false M disk old new = new ≡ old
-IsLapFound true M disk old new = TellsApart M → (image : List ℕ) → disk.seen ≡ Some image
+IsLapFound true M disk old new = TellsViews M → (image : List ℕ) → disk.seen ≡ Some image
     → ((shows M image ≡ Shows M.empty) × (new ≡ old + 1)) ⊎ ((shows M image ≡ Shows M.empty → ⊥) × (new ≡ old))
 
 -- the copies were read, or could not be: nothing was written

@@ -1,16 +1,14 @@
 -- What a part of the code did, against what the definition tells: over all that was found and all that fell, whatever comes later.
-use Rattle.std.specs.Prelude.{◌≡◌, ℕ, ◌+◌, ◌≤◌, List, [], ◌++◌, length, Option, None, Some, Result, Ok, Err}
+use Rattle.std.specs.Prelude.{◌≡◌, ℕ, ◌+◌, ◌≤◌, List, [], ◌++◌, length, Option, None, Result, Ok, Err}
 use Rattle.std.specs.Io.KnownBytes.{Appends}
 use Rattle.gd_base.specs.Outside.Causes.{AppendsFront}
 use Rattle.gd_base.specs.Judging.Machine.{Machine}
 use Rattle.gd_disk.specs.Disk.{DiskState}
-use Rattle.gd_top.specs.Claims.MemoryLeft.{IsExplained, IsLeftAt, IsLeftBroken}
+use Rattle.gd_top.specs.Claims.MemoryLeft.{IsExplained, IsLeftAt, IsLeftBroken, IsOfAnother}
 use Rattle.gd_top.specs.Code.Standing.{Standing, Later, at, finds, only, EndsInNone}
-use Rattle.gd_store.specs.declared.copy.states.Found.{Found}
-use Rattle.gd_top.specs.Report.Lines.{power_line}
-use Rattle.gd_top.specs.Run.Offers.{Rise}
+use Rattle.gd_top.specs.Run.Offers.{AreArmed, Rise}
 use Rattle.gd_top.specs.Run.Starts.{starts_in}
-use Rattle.gd_top.specs.Run.State.{Start, State, Part, Outcome, Goes, Stops, Breaks, before}
+use Rattle.gd_top.specs.Run.State.{Start, State, Part, Outcome, Goes, Stops, Differs, Breaks, before}
 use Rattle.gd_top.specs.declared.halt.Halt.{Halt}
 
 -- what the outside has of a run: the images that the power-ons found, what the sink took, the falls that are given back, and how
@@ -43,6 +41,14 @@ pub record Pending {V : Type 0} (M : Machine V) (tell rest : State V → Part V)
 -- nothing is still to be told
 abbrev pub Carries : {V : Type 0} → Machine V → (State V → Part V) → Outcome → (was stands : Standing V) → (old new : Outside) → Type 0
 Carries M tell outcome was stands old new = Pending M tell (λ s. record { report = []; state = s; outcome = outcome }) was stands old new
+
+-- The memory that was found was made under another setup: what was printed is what is told, up to the end of the run. What is
+-- known of the standing then.
+pub record Differing {V : Type 0} (M : Machine V) (tell : State V → Part V) (was stands : Standing V) (old new : Outside) (disk : DiskState) : Type 0 where
+  pub carried : Carries M tell Differs was stands old new
+  pub armed : AreArmed stands.armed disk.armed
+  pub explained : IsExplained (at stands (only [] [] None))
+  pub left : IsOfAnother M disk
 
 -- the images that a part found, of which it read all, or all but the last
 pub record FoundSince {V : Type 0} (M : Machine V) (old new : List (List ℕ)) : Type 0 where
@@ -88,6 +94,7 @@ CarriesBy (Err Halt.ScriptFault) M tell was stands old new disk = Carries M tell
 CarriesBy (Err Halt.ReadFault) M tell was stands old new disk = ⊥
 CarriesBy (Err Halt.DiskFault) M tell was stands old new disk = Broken M tell was old new disk
 CarriesBy (Err Halt.WriteFault) M tell was stands old new disk = Unwritten M tell was old new disk
+CarriesBy (Err Halt.SetupDiffers) M tell was stands old new disk = Differing M tell was stands old new disk
 
 -- a text was given whole, or else a front of it
 abbrev pub GivesText : Result (Unit {0}) Halt → Option (List ℕ) → Option (List ℕ) → List ℕ → Type 0
@@ -96,12 +103,4 @@ GivesText (Err Halt.ScriptFault) taken given text = ⊥
 GivesText (Err Halt.ReadFault) taken given text = ⊥
 GivesText (Err Halt.DiskFault) taken given text = ⊥
 GivesText (Err Halt.WriteFault) taken given text = AppendsFront taken given text
-
--- where the disk failed in an opening: the copies that power-on `number` found were printed, where they were read
-abbrev pub GivesBroken : Halt → ℕ → Option Found → (taken given : Option (List ℕ)) → Type 0
-GivesBroken Halt.DiskFault number None taken given = Appends taken given []
-GivesBroken Halt.DiskFault number (Some found) taken given = Appends taken given (power_line number found)
-GivesBroken Halt.WriteFault number None taken given = ⊥
-GivesBroken Halt.WriteFault number (Some found) taken given = AppendsFront taken given (power_line number found)
-GivesBroken Halt.ScriptFault number found taken given = ⊥
-GivesBroken Halt.ReadFault number found taken given = ⊥
+GivesText (Err Halt.SetupDiffers) taken given text = ⊥

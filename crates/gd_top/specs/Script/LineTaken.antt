@@ -26,6 +26,7 @@ TakesLine old new line (Err Halt.ScriptFault) = IsTooLong old new line ⊎ IsUne
 TakesLine old new line (Err Halt.ReadFault) = Consumes old new line
 TakesLine old new line (Err Halt.DiskFault) = ⊥
 TakesLine old new line (Err Halt.WriteFault) = ⊥
+TakesLine old new line (Err Halt.SetupDiffers) = ⊥
 
 -- the end, or a byte where none is allowed
 abbrev pub TakesEnd : Option (List ℕ) → Option (List ℕ) → Result (Unit {0}) Halt → Type 0
@@ -34,3 +35,4 @@ TakesEnd old new (Err Halt.ScriptFault) = (b : ℕ) × Consumes old new (b ∷ [
 TakesEnd old new (Err Halt.ReadFault) = Consumes old new []
 TakesEnd old new (Err Halt.DiskFault) = ⊥
 TakesEnd old new (Err Halt.WriteFault) = ⊥
+TakesEnd old new (Err Halt.SetupDiffers) = ⊥

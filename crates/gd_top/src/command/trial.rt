@@ -3,11 +3,12 @@
 ghost use Rattle.std.specs.Prelude.{◌≡◌, ◌≤◌, ◌⊎◌, true, false, [], Err};
 ghost use Rattle.gd_base.specs.Judging.SoFar.{machine_so_far};
 ghost use Rattle.gd_base.specs.Outside.Causes.{Rose};
+ghost use Rattle.gd_base.specs.Laws.TellsViews.{TellsViews};
 ghost use Rattle.gd_disk.specs.Disk.{IsSynced};
 ghost use Rattle.gd_top.specs.Claims.MemoryLeft.{IsAtRest, IsSettled};
 ghost use Rattle.gd_top.specs.Claims.Trial.{outer, status_after, last_text, GivesLast, HasCauses, TrialDone};
 ghost use Rattle.gd_top.specs.Code.LinesDone.{RunDone};
-ghost use Rattle.gd_top.specs.Code.Memory.{memory_core, memory_disk, memory_draws, memory_phase, memory_stopped, moment, moment_closed, IsFresh, Leaves, TellsApart};
+ghost use Rattle.gd_top.specs.Code.Memory.{memory_core, memory_disk, memory_draws, memory_phase, memory_stopped, moment, moment_closed, IsFresh, Leaves};
 ghost use Rattle.gd_top.specs.FirstCore.View.{core_view};
 ghost use Rattle.gd_top.specs.Run.Life.{end_line, end_status};
 ghost use Rattle.gd_top.specs.Run.State.{Off, Locked};
@@ -26,6 +27,9 @@ use crate::status::Status;
 use gd_base::{Core, Draws, Sink, Source, Text};
 use gd_cabinet::Parts;
 use gd_disk::{DISK_LEN, LabDisk};
+
+/// The digest of the setup, until setups are read.
+const NO_DIGEST: [u8; 32] = [0; 32];
 
 /// How a trial ended, and what was handed in.
 #[derive(Drop)]
@@ -56,7 +60,7 @@ pub(crate) fn run_trial<S: Source, K: Sink, L: LabDisk, W: Draws>(
         (outer S.left S.faults K.taken K.faults L.state input.new output.new result.lab) }
 {
     let mut text = Text::new();
-    let mut counts = Counts::new();
+    let mut counts = Counts::new(NO_DIGEST);
     let (memory, ended) = carry_script(parts, &mut counts, input, output, &mut text);
     let status = end_report(&memory, counts.lines, ended, output, &mut text);
     let parts = close(memory);
@@ -81,8 +85,9 @@ fn carry_script<C: Core, S: Source, K: Sink, L: LabDisk, W: Draws>(
     requires is_on { (L.state parts.disk).is_on ≡ true }
     requires armed { (L.state parts.disk).armed ≡ [] }
     requires found { (L.state parts.disk).found ≡ [] }
-    requires tells { TellsApart (C.meaning parts.core) }
+    requires tells { TellsViews (C.meaning parts.core) }
     requires fresh { IsFresh counts.old }
+    requires given { counts.old.given ≡ (C.meaning parts.core).digest }
     ensures done { RunDone result.1
         (moment_closed Off C.meaning C.view L.state W.block_of K.taken K.faults parts counts.old output.old)
         (moment C.meaning C.view L.state W.block_of K.taken K.faults result.0 counts.new output.new)
@@ -131,7 +136,8 @@ fn end_report<K: Sink, L: LabDisk, W: Draws>(
     }
 }
 
-/// Writes the last line of a report over what stands in `text`, or nothing where the sink failed.
+/// Writes the last line of a report over what stands in `text`, or nothing where the sink failed or an opening told that the
+/// setup differs.
 fn write_last<L: LabDisk, W: Draws>(
     text: &mut Text,
     memory: &Memory<FirstCore, L, W>,
@@ -149,7 +155,7 @@ fn write_last<L: LabDisk, W: Draws>(
         Err(Halt::ScriptFault) => push_fault_line(text, lines + 1),
         Err(Halt::ReadFault) => text.push_str("read fault\n"),
         Err(Halt::DiskFault) => text.push_str("disk fault\n"),
-        Err(Halt::WriteFault) => {}
+        Err(Halt::WriteFault | Halt::SetupDiffers) => {}
     }
 }
 
@@ -166,6 +172,7 @@ fn status_after<C: Core, L: LabDisk, W: Draws>(
         Err(Halt::ReadFault) => Status::ReadFault,
         Err(Halt::DiskFault) => Status::DiskFault,
         Err(Halt::WriteFault) => Status::WriteFault,
+        Err(Halt::SetupDiffers) => Status::SetupDiffers,
     }
 }
 

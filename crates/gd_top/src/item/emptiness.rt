@@ -2,7 +2,7 @@
 
 ghost use Rattle.std.specs.Prelude.{◌≡◌, true, false, length};
 ghost use Rattle.gd_base.specs.Payloads.Spelled.{Shows};
-ghost use Rattle.gd_top.specs.Code.Memory.{TellsApart};
+ghost use Rattle.gd_base.specs.Laws.TellsViews.{TellsViews};
 
 use gd_base::{Core, Loaded, PAYLOAD_LEN, Text, What};
 
@@ -10,7 +10,7 @@ use gd_base::{Core, Loaded, PAYLOAD_LEN, Text, What};
 /// state is the empty one.
 pub(crate) fn is_empty<C: Core>(core: &mut C, payload: &[u8], text: &mut Text) -> bool
     requires { length payload.now ≡ PAYLOAD_LEN }
-    ensures yes { result ≡ true → TellsApart (C.meaning core.old)
+    ensures yes { result ≡ true → TellsViews (C.meaning core.old)
         → (C.meaning core.old).spelled payload.now ≡ Shows (C.meaning core.old).empty }
     ensures no { result ≡ false → (C.meaning core.old).spelled payload.now ≡ Shows (C.meaning core.old).empty → ⊥ }
     ensures same { C.meaning core.new ≡ C.meaning core.old }

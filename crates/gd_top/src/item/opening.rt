@@ -9,14 +9,16 @@ ghost use Rattle.gd_store.specs.OpenAnswer.{IsOpenable};
 ghost use Rattle.gd_store.specs.Repair.{repair_needed};
 ghost use Rattle.gd_store.specs.Writing.{From};
 ghost use Rattle.gd_top.specs.Code.Memory.{moment, moment_closed, unless_failed, IsDown, IsLapFound, LeavesDisk, Opens, Reopens};
-ghost use Rattle.gd_top.specs.Report.Lines.{is_copy_full, is_found_full, locked_line, power_line, start_text};
+ghost use Rattle.gd_top.specs.Report.Lines.{differs_line, is_copy_full, is_found_full, locked_line, power_line, start_text};
 ghost use Rattle.gd_top.specs.Run.State.{Off};
 
 use crate::halt::Halt;
 use crate::item::emptiness::is_empty;
 use crate::memory::Memory;
 use crate::memory::counts::Counts;
-use crate::report::lines::{give_text, push_locked_line, push_power_line, push_start_line};
+use crate::report::lines::{
+    give_text, push_differs_line, push_locked_line, push_power_line, push_start_line,
+};
 use crate::script::reader::MOST_LINES;
 use gd_base::{Core, Draws, MOST_ENTRIES, Sink, Text};
 use gd_cabinet::{Cabinet, CabinetOpened, Parts};
@@ -64,7 +66,8 @@ pub(crate) fn reopen<C: Core, K: Sink, L: LabDisk, W: Draws>(
 }
 
 /// Turns the power on, opens the memory, and prints what was found and the start, or that the memory is locked. A cut that
-/// comes in it is counted. Where a making is in flight, the lap is raised if the empty memory is found.
+/// comes in it is counted. Where a making is in flight, the lap is raised if the empty memory is found. Over a memory that was
+/// made under another setup the run ends, and nothing is written.
 pub(crate) fn open_once<C: Core, K: Sink, L: LabDisk, W: Draws>(
     mut parts: Parts<C, L, W>,
     counts: &mut Counts,
@@ -126,7 +129,15 @@ pub(crate) fn open_once<C: Core, K: Sink, L: LabDisk, W: Draws>(
             )
         }
         CabinetOpened::Off { found: None, parts } => (Memory::Off(parts), Err(Halt::DiskFault)),
-        CabinetOpened::Differs { .. } => unreachable!(),
+        CabinetOpened::Differs { kept, found, parts } => {
+            counts.offers += 1;
+            write_differs(text, counts.power_ons, &found, &kept, &counts.given);
+            let given = give_text(output, text);
+            (
+                Memory::Locked(parts),
+                unless_failed(given, Err(Halt::SetupDiffers)),
+            )
+        }
     }
 }
 
@@ -207,6 +218,14 @@ fn write_locked(text: &mut Text, number: u64, found: &Found)
 {
     write_power_line(text, number, found);
     push_locked_line(text);
+}
+
+/// Writes the line of power-on `number`, and that the memory was made under another setup, over what stands in `text`.
+fn write_differs(text: &mut Text, number: u64, found: &Found, kept: &[u8; 32], given: &[u8; 32])
+    ensures { text.new.bytes ≡ power_line number found.now ++ differs_line kept.now given.now }
+{
+    write_power_line(text, number, found);
+    push_differs_line(text, kept, given);
 }
 
 /// Writes the line of power-on `number` over what stands in `text`. At most 87 bytes.

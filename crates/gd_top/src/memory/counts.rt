@@ -1,4 +1,4 @@
-//! What a trial has counted so far.
+//! What a trial has counted so far, and the digest of its setup.
 
 ghost use Rattle.std.specs.Prelude.{◌≡◌, ◌≤◌, ◌<◌, ◌+◌, ◌++◌, ◌∷◌, [], nat_le, length, drop};
 ghost use Rattle.gd_top.specs.Code.Falls.{falls_by};
@@ -13,7 +13,7 @@ pub(crate) const MOST_OFFERS: u64 = 1_000_512;
 
 const _: () = prove!(MOST_OFFERS == MOST_LINES + 2 * MOST_POWER_ONS);
 
-/// What a trial has counted so far. One is a local of the trial, and is lent down.
+/// What a trial has counted so far, and the digest of its setup. One is a local of the trial, and is lent down.
 #[derive(Drop)]
 pub(crate) struct Counts {
     /// The lines that were carried out.
@@ -28,17 +28,20 @@ pub(crate) struct Counts {
     pub(crate) calls: ArrayVec<bool, 256>,
     /// The offers in which cuts came that counted calls, in order.
     pub(crate) falls: Falls,
+    /// The digest of the given setup. It is told beside that of a memory of another.
+    pub(crate) given: [u8; 32],
 }
 
 impl Counts {
-    /// Nothing yet.
-    pub(crate) fn new() -> Counts
+    /// Nothing yet, under a setup of this digest.
+    pub(crate) fn new(given: [u8; 32]) -> Counts
         ensures lines { result.lines ≡ 0 }
         ensures power_ons { result.power_ons ≡ 0 }
         ensures lap { result.lap ≡ 0 }
         ensures offers { result.offers ≡ 0 }
         ensures calls { result.calls.items ≡ [] }
         ensures falls { result.falls.items ≡ [] }
+        ensures given { result.given ≡ given }
     {
         Counts {
             lines: 0,
@@ -47,6 +50,7 @@ impl Counts {
             offers: 0,
             calls: ArrayVec::new(),
             falls: Falls::new(),
+            given,
         }
     }
 
@@ -65,6 +69,7 @@ impl Counts {
         ensures lines { self.new.lines ≡ self.old.lines }
         ensures power_ons { self.new.power_ons ≡ self.old.power_ons }
         ensures lap { self.new.lap ≡ self.old.lap }
+        ensures given { self.new.given ≡ self.old.given }
         ensures offers { self.new.offers ≡ self.old.offers }
         ensures calls { self.new.calls.items ≡ drop 1 self.old.calls.items }
         ensures falls { self.new.falls.items

@@ -1,11 +1,11 @@
 //! The lines of a report, and their giving to the sink. docs/FORMATS.md has each; `specs/Report/Lines` has them as bytes.
 
-ghost use Rattle.std.specs.Prelude.{◌≡◌, ◌≤◌, ◌+◌, ◌++◌, if◌then◌else◌, length, codes, decimal, OnErr};
+ghost use Rattle.std.specs.Prelude.{◌≡◌, ◌≤◌, ◌<◌, ◌+◌, ◌++◌, ◌∷◌, [], if◌then◌else◌, length, codes, decimal, OnErr};
 ghost use Rattle.arrayvec.specs.ArrayString.{array_string_len};
 ghost use Rattle.gd_store.specs.Repair.{repair_needed};
 ghost use Rattle.gd_base.specs.Outside.Causes.{Rose};
 ghost use Rattle.gd_top.specs.Code.Parts.{GivesText};
-ghost use Rattle.gd_top.specs.Report.Lines.{altered_line, answer_line, copy_text, full_line, locked_line, none_line, power_line, repair_text, side_name, start_line, step_line};
+ghost use Rattle.gd_top.specs.Report.Lines.{altered_line, answer_line, copy_text, differs_line, full_line, hex, hex_digit, locked_line, none_line, power_line, repair_text, side_name, start_line, step_line};
 
 use crate::halt::Halt;
 use gd_base::{Device, Reply, Sink, TEXT_LEN, Text, push_count_line, push_number, push_reply};
@@ -157,6 +157,47 @@ pub(crate) fn push_locked_line(text: &mut Text)
     ensures room { array_string_len text.new ≤ array_string_len text.old + 7 }
 {
     text.push_str("locked\n");
+}
+
+/// Appends that the memory was made under the setup of the digest `kept`, in place of the given one. 149 bytes.
+pub(crate) fn push_differs_line(text: &mut Text, kept: &[u8; 32], given: &[u8; 32])
+    requires { array_string_len text.old + 149 ≤ TEXT_LEN }
+    ensures bytes { text.new.bytes ≡ text.old.bytes ++ differs_line kept.now given.now }
+    ensures room { array_string_len text.new ≤ array_string_len text.old + 149 }
+{
+    text.push_str("differs kept ");
+    push_digest(text, kept);
+    text.push_str(" given ");
+    push_digest(text, given);
+    text.push_str("\n");
+}
+
+/// Appends a digest in hexadecimal: 64 bytes.
+fn push_digest(text: &mut Text, digest: &[u8; 32])
+    requires { array_string_len text.old + 64 ≤ TEXT_LEN }
+    ensures bytes { text.new.bytes ≡ text.old.bytes ++ hex digest.now }
+    ensures room { array_string_len text.new ≤ array_string_len text.old + 64 }
+{
+    for place in 0..32 {
+        let byte = digest[place];
+        push_hex_digit(text, byte / 16);
+        push_hex_digit(text, byte % 16);
+    }
+}
+
+/// Appends a digit in hexadecimal: one byte.
+fn push_hex_digit(text: &mut Text, digit: u8)
+    requires digit { digit < 16 }
+    requires room { array_string_len text.old + 1 ≤ TEXT_LEN }
+    ensures bytes { text.new.bytes ≡ text.old.bytes ++ hex_digit digit ∷ [] }
+    ensures room { array_string_len text.new ≤ array_string_len text.old + 1 }
+{
+    let code = if digit < 10 {
+        b'0' + digit
+    } else {
+        b'a' - 10 + digit
+    };
+    text.push(code as char);
 }
 
 /// Appends the line of a byte that was altered, at this place in a copy. At most 31 bytes.

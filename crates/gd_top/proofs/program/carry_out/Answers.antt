@@ -29,6 +29,13 @@ returns-clause-script_fault g c = λ is.
     let now = outer g.S.Source.left g.S.Source.faults g.K.Sink.taken g.K.Sink.faults lab_state run.new.input run.new.output run.result.lab in
     (c.in_ok-lab.lab, subst (λ (blocks : Blocks). WroteReport (machine_so_far built_in_setup) blocks Status.ScriptFault run.result.falls.items was now) c.first_draws.ensures.blocks (run.ensures.script_fault is))
 
+pub returns-clause-differs : goal.returns-clause-differs
+returns-clause-differs g c = λ is.
+    let run = c.cabinet in
+    let was = outer g.S.Source.left g.S.Source.faults g.K.Sink.taken g.K.Sink.faults lab_state c.args.input.now c.args.output.now c.in_ok-lab.lab in
+    let now = outer g.S.Source.left g.S.Source.faults g.K.Sink.taken g.K.Sink.faults lab_state run.new.input run.new.output run.result.lab in
+    (c.in_ok-lab.lab, subst (λ (blocks : Blocks). WroteReport (machine_so_far built_in_setup) blocks Status.SetupDiffers run.result.falls.items was now) c.first_draws.ensures.blocks (run.ensures.differs is))
+
 pub returns-clause-usage : goal.returns-clause-usage
 returns-clause-usage g c =
     let run = c.cabinet in

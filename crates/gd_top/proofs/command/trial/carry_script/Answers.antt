@@ -42,7 +42,7 @@ returns-then-is_err-clause-leaves g c =
     let blocks = λ (lap index : ℕ). ap (λ w. g.W.Draws.block_of w lap index) c.in-Ok.ensures.draws in
     let h = c.in-Ok.ensures.made in
     let mid = moment g.C.Core.meaning g.C.Core.view g.L.Disk.state g.W.Draws.block_of g.K.Sink.taken g.K.Sink.faults c.reopen-memory.result.0 c.reopen-memory.new.counts c.reopen-memory.new.output in
-    let left = made_leaves was made c.requires.armed machine c.requires.fresh h blocks c.requires.tells refl refl refl in
+    let left = made_leaves was made c.requires.armed machine c.requires.fresh h blocks c.requires.tells c.requires.given refl refl refl in
     leaves_then was made mid c.reopen-memory.result.1 left c.reopen-memory.ensures.does.leaves
 
 pub returns-else-is_err-clause-leaves : goal.returns-else-is_err-clause-leaves
@@ -54,7 +54,7 @@ returns-else-is_err-clause-leaves g c =
     let h = c.in-Ok.ensures.made in
     let mid = moment g.C.Core.meaning g.C.Core.view g.L.Disk.state g.W.Draws.block_of g.K.Sink.taken g.K.Sink.faults c.reopen-memory.result.0 c.reopen-memory.new.counts c.reopen-memory.new.output in
     let now = moment g.C.Core.meaning g.C.Core.view g.L.Disk.state g.W.Draws.block_of g.K.Sink.taken g.K.Sink.faults c.carry_lines.result.0 c.carry_lines.new.counts c.carry_lines.new.output in
-    let left = made_leaves was made c.requires.armed machine c.requires.fresh h blocks c.requires.tells refl refl refl in
+    let left = made_leaves was made c.requires.armed machine c.requires.fresh h blocks c.requires.tells c.requires.given refl refl refl in
     let went = went_on c.reopen-memory.result.1 (sym c.is_err.ensures.value ∙ c.if-is_err.false) in
     leaves_then was made now c.carry_lines.result.1 left
     (leaves_then made mid now c.carry_lines.result.1 (subst (λ (r : Result (Unit {0}) _). Leaves r made mid) went c.reopen-memory.ensures.does.leaves) c.carry_lines.ensures.leaves)
@@ -78,7 +78,7 @@ pub reopen-memory-requires-clause-down : goal.reopen-memory-requires-clause-down
 reopen-memory-requires-clause-down g c =
     let was = moment_closed Off g.C.Core.meaning g.C.Core.view g.L.Disk.state g.W.Draws.block_of g.K.Sink.taken g.K.Sink.faults c.args.parts c.args.counts.now c.args.output.now in
     let made = moment_closed Off g.C.Core.meaning g.C.Core.view g.L.Disk.state g.W.Draws.block_of g.K.Sink.taken g.K.Sink.faults c.in-Ok.made c.args.counts.now c.args.output.now in
-    made_down was made c.requires.armed (ap g.C.Core.meaning c.in-Ok.ensures.core) c.requires.fresh c.in-Ok.ensures.made c.requires.tells
+    made_down was made c.requires.armed (ap g.C.Core.meaning c.in-Ok.ensures.core) c.requires.fresh c.in-Ok.ensures.made c.requires.tells c.requires.given
 
 pub carry_lines-requires-clause-sits : goal.carry_lines-requires-clause-sits
 carry_lines-requires-clause-sits g c =

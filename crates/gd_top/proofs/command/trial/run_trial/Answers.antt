@@ -1,12 +1,12 @@
 use Rattle.std.proofs.Common.{sym, subst}
 use Rattle.gd_base.specs.Judging.SoFar.{machine_so_far}
+use Rattle.gd_base.proofs.PayloadLemmas.Views.{so_far_tells}
 use Rattle.gd_top.specs.Claims.MemoryLeft.{IsAtRest}
 use Rattle.gd_top.specs.Claims.Trial.{outer, HasCauses, TrialDone}
 use Rattle.gd_top.specs.Code.Memory.{memory_disk, memory_phase, moment, moment_closed}
 use Rattle.gd_top.specs.FirstCore.View.{core_view}
 use Rattle.gd_top.specs.Run.State.{Off}
 use Rattle.gd_top.specs.declared.first_core.FirstCore.{FirstCore}
-use Rattle.gd_top.proofs.FirstCoreLemmas.Apart.{so_far_apart}
 use Rattle.gd_top.proofs.TrialLemmas.Ends.{causes}
 use Rattle.gd_top.proofs.TrialLemmas.Told.{trial_done}
 use Rattle.gd_top.proofs.command.trial.run_trial.Goals as goal
@@ -47,7 +47,7 @@ returns-clause-causes g c =
     leaves.write_fault leaves.disk_fault)
 
 pub carry_script-memory-requires-clause-tells : goal.carry_script-memory-requires-clause-tells
-carry_script-memory-requires-clause-tells g c = so_far_apart c.args.parts.core.setup
+carry_script-memory-requires-clause-tells g c = so_far_tells c.args.parts.core.setup
 
 pub carry_script-memory-requires-clause-fresh : goal.carry_script-memory-requires-clause-fresh
 carry_script-memory-requires-clause-fresh g c =

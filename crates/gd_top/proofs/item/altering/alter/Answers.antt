@@ -55,6 +55,7 @@ returns g c = λ k sits.
       leaves = record {
         sits = λ serves. record {
           tells = sits.tells;
+          given = sits.given;
           size = c.alter.ensures.counts.size ∙ sits.size;
           power = c.alter.ensures.power;
           runs = refl;

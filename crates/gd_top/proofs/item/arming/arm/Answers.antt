@@ -45,6 +45,7 @@ returns-clause-does g c =
       lines = refl;
       power_ons = refl;
       laps = refl;
+      given = refl;
       offers = refl;
       falls = refl;
       calls = c.push.ensures.items ∙ ap (λ (call : Bool). c.args.counts.now.calls.items ++ call ∷ []) (c.eq.ensures ∙ calls_told c.args.unit);

@@ -82,7 +82,7 @@ reopen-memory-requires-clause-down g c =
     let off = moment_on g.C.Core.meaning g.C.Core.view g.L.Disk.state g.W.Draws.block_of g.K.Sink.taken g.K.Sink.faults c.submit.new.self (record k { offers = k.offers + 1 }) c.loop-answer.output in
     let failed = failed_event {T = Answer} e mid off sits c.in-Err.field-0 (c.in-Err.ensures.syncs sits.runs) c.in-Err.ensures.run (c.in-Err.ensures.any_moment sits.runs) c.in-Err.ensures.found refl refl c.in-Err.ensures.meaning c.in-Err.ensures.draws in
     let down = moment_closed Off g.C.Core.meaning g.C.Core.view g.L.Disk.state g.W.Draws.block_of g.K.Sink.taken g.K.Sink.faults c.close.result c.fall.new.self c.loop-answer.output in
-    let counted : IsCounted mid down = record { offers = c.fall.ensures.offers; power_ons = c.fall.ensures.power_ons; lines = c.fall.ensures.lines; lap = c.fall.ensures.lap; calls = c.fall.ensures.calls; falls = c.fall.ensures.falls } in
+    let counted : IsCounted mid down = record { offers = c.fall.ensures.offers; power_ons = c.fall.ensures.power_ons; lines = c.fall.ensures.lines; lap = c.fall.ensures.lap; given = c.fall.ensures.given; calls = c.fall.ensures.calls; falls = c.fall.ensures.falls } in
     let cut = was_cut syncs_of_event c.in-Err.field-0 mid.disk off.disk failed.1 sits.power (omega (arith, c.cuts_armed-armed.ensures, c.cuts_armed.ensures, c.if-cuts_armed-armed.false)) in
     let disk = ap g.L.Disk.state c.close.ensures.disk in
     let cut_off = subst (λ (d : DiskState). IsCutOff syncs_of_event mid.disk d) (sym disk) cut in
@@ -99,7 +99,7 @@ returns-then-is_err-clause-does g c =
     let off = moment_on g.C.Core.meaning g.C.Core.view g.L.Disk.state g.W.Draws.block_of g.K.Sink.taken g.K.Sink.faults c.submit.new.self (record k { offers = k.offers + 1 }) c.loop-answer.output in
     let failed = failed_event {T = Answer} e mid off sits c.in-Err.field-0 (c.in-Err.ensures.syncs sits.runs) c.in-Err.ensures.run (c.in-Err.ensures.any_moment sits.runs) c.in-Err.ensures.found refl refl c.in-Err.ensures.meaning c.in-Err.ensures.draws in
     let down = moment_closed Off g.C.Core.meaning g.C.Core.view g.L.Disk.state g.W.Draws.block_of g.K.Sink.taken g.K.Sink.faults c.close.result c.fall.new.self c.loop-answer.output in
-    let counted : IsCounted mid down = record { offers = c.fall.ensures.offers; power_ons = c.fall.ensures.power_ons; lines = c.fall.ensures.lines; lap = c.fall.ensures.lap; calls = c.fall.ensures.calls; falls = c.fall.ensures.falls } in
+    let counted : IsCounted mid down = record { offers = c.fall.ensures.offers; power_ons = c.fall.ensures.power_ons; lines = c.fall.ensures.lines; lap = c.fall.ensures.lap; given = c.fall.ensures.given; calls = c.fall.ensures.calls; falls = c.fall.ensures.falls } in
     let cut = was_cut syncs_of_event c.in-Err.field-0 mid.disk off.disk failed.1 sits.power (omega (arith, c.cuts_armed-armed.ensures, c.cuts_armed.ensures, c.if-cuts_armed-armed.false)) in
     let disk = ap g.L.Disk.state c.close.ensures.disk in
     let cut_off = subst (λ (d : DiskState). IsCutOff syncs_of_event mid.disk d) (sym disk) cut in
@@ -119,7 +119,7 @@ loop-answer-preserved g c =
     let off = moment_on g.C.Core.meaning g.C.Core.view g.L.Disk.state g.W.Draws.block_of g.K.Sink.taken g.K.Sink.faults c.submit.new.self (record k { offers = k.offers + 1 }) c.loop-answer.output in
     let failed = failed_event {T = Answer} e mid off sits c.in-Err.field-0 (c.in-Err.ensures.syncs sits.runs) c.in-Err.ensures.run (c.in-Err.ensures.any_moment sits.runs) c.in-Err.ensures.found refl refl c.in-Err.ensures.meaning c.in-Err.ensures.draws in
     let down = moment_closed Off g.C.Core.meaning g.C.Core.view g.L.Disk.state g.W.Draws.block_of g.K.Sink.taken g.K.Sink.faults c.close.result c.fall.new.self c.loop-answer.output in
-    let counted : IsCounted mid down = record { offers = c.fall.ensures.offers; power_ons = c.fall.ensures.power_ons; lines = c.fall.ensures.lines; lap = c.fall.ensures.lap; calls = c.fall.ensures.calls; falls = c.fall.ensures.falls } in
+    let counted : IsCounted mid down = record { offers = c.fall.ensures.offers; power_ons = c.fall.ensures.power_ons; lines = c.fall.ensures.lines; lap = c.fall.ensures.lap; given = c.fall.ensures.given; calls = c.fall.ensures.calls; falls = c.fall.ensures.falls } in
     let cut = was_cut syncs_of_event c.in-Err.field-0 mid.disk off.disk failed.1 sits.power (omega (arith, c.cuts_armed-armed.ensures, c.cuts_armed.ensures, c.if-cuts_armed-armed.false)) in
     let disk = ap g.L.Disk.state c.close.ensures.disk in
     let cut_off = subst (λ (d : DiskState). IsCutOff syncs_of_event mid.disk d) (sym disk) cut in
@@ -140,7 +140,7 @@ returns-in-Locked-clause-does g c =
     let off = moment_on g.C.Core.meaning g.C.Core.view g.L.Disk.state g.W.Draws.block_of g.K.Sink.taken g.K.Sink.faults c.submit.new.self (record k { offers = k.offers + 1 }) c.loop-answer.output in
     let failed = failed_event {T = Answer} e mid off sits c.in-Err.field-0 (c.in-Err.ensures.syncs sits.runs) c.in-Err.ensures.run (c.in-Err.ensures.any_moment sits.runs) c.in-Err.ensures.found refl refl c.in-Err.ensures.meaning c.in-Err.ensures.draws in
     let down = moment_closed Off g.C.Core.meaning g.C.Core.view g.L.Disk.state g.W.Draws.block_of g.K.Sink.taken g.K.Sink.faults c.close.result c.fall.new.self c.loop-answer.output in
-    let counted : IsCounted mid down = record { offers = c.fall.ensures.offers; power_ons = c.fall.ensures.power_ons; lines = c.fall.ensures.lines; lap = c.fall.ensures.lap; calls = c.fall.ensures.calls; falls = c.fall.ensures.falls } in
+    let counted : IsCounted mid down = record { offers = c.fall.ensures.offers; power_ons = c.fall.ensures.power_ons; lines = c.fall.ensures.lines; lap = c.fall.ensures.lap; given = c.fall.ensures.given; calls = c.fall.ensures.calls; falls = c.fall.ensures.falls } in
     let cut = was_cut syncs_of_event c.in-Err.field-0 mid.disk off.disk failed.1 sits.power (omega (arith, c.cuts_armed-armed.ensures, c.cuts_armed.ensures, c.if-cuts_armed-armed.false)) in
     let disk = ap g.L.Disk.state c.close.ensures.disk in
     let cut_off = subst (λ (d : DiskState). IsCutOff syncs_of_event mid.disk d) (sym disk) cut in

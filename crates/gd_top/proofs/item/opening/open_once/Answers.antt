@@ -1,7 +1,7 @@
-use Rattle.std.proofs.Common.{◌≡◌, ◌∙◌, ◌+◌, ◌++◌, drop, length, ap, sym, subst, refl, arith, ℕ, Bool}
+use Rattle.std.proofs.Common.{◌≡◌, ◌∙◌, ◌+◌, ◌++◌, drop, length, ap, sym, subst, refl, arith, ℕ, Bool, List}
 use Rattle.std.proofs.KnownBytes.{Appends-nil}
 use Rattle.gd_base.specs.Judging.Answer.{is_full}
-use Rattle.gd_base.specs.Payloads.Spelled.{Unreadable}
+use Rattle.gd_base.specs.Payloads.Spelled.{Foreign, Unreadable}
 use Rattle.gd_cabinet.specs.Cabinet.{cabinet_core, cabinet_disk}
 use Rattle.gd_cabinet.specs.Shown.{shows}
 use Rattle.gd_disk.proofs.WholeRuns.{was_cut, was_fault}
@@ -10,15 +10,16 @@ use Rattle.gd_store.specs.Repair.{repair_needed}
 use Rattle.gd_store.specs.declared.copy.layout.TheConstants.{LAYOUT}
 use Rattle.gd_store.specs.declared.copy.states.Found.{Found}
 use Rattle.gd_base.specs.Outside.Causes.{Rose}
+use Rattle.gd_base.specs.Laws.TellsViews.{TellsViews}
 use Rattle.gd_top.specs.Code.Falls.{falls_by}
-use Rattle.gd_top.specs.Code.Memory.{TellsApart, moment_on, moment_closed, Opens}
+use Rattle.gd_top.specs.Code.Memory.{moment_on, moment_closed, Opens}
 use Rattle.gd_top.specs.Code.Parts.{GivesText}
-use Rattle.gd_top.specs.Report.Lines.{is_found_full, locked_line, power_line, start_text}
+use Rattle.gd_top.specs.Report.Lines.{differs_line, is_found_full, locked_line, power_line, start_text}
 use Rattle.gd_top.specs.Run.State.{Off, Locked}
 use Rattle.gd_top.specs.declared.memory.counts.Counts.{Counts}
-use Rattle.gd_top.proofs.ItemLemmas.Images.{core_shows, full_is, lost_shows, not_foreign, opening_near, shut_synced, some_at, told_at}
-use Rattle.gd_top.proofs.ItemLemmas.OpenedSo.{CountsOpened, fell_to, failed_to, locked_to, unpowered_to, unread_to, viewed_to}
-use Rattle.gd_top.proofs.ItemLemmas.OpeningMoments.{IsReady, IsUnready, counted_after, down_after, fewer_after, has_read, lap_room, left_by, lost_by, read_alone, opens_failed, opens_fell, opens_stands, opens_unread, over_core, still_after, unread_of}
+use Rattle.gd_top.proofs.ItemLemmas.Images.{core_shows, full_is, lost_shows, opening_near, shut_synced, some_at, told_at}
+use Rattle.gd_top.proofs.ItemLemmas.OpenedSo.{CountsOpened, differs_to, fell_to, failed_to, locked_to, unpowered_to, unread_to, viewed_to}
+use Rattle.gd_top.proofs.ItemLemmas.OpeningMoments.{IsReady, IsUnready, counted_after, down_after, fewer_after, has_read, lap_room, left_by, lost_by, read_alone, opens_differs, opens_failed, opens_fell, opens_stands, opens_unread, over_core, still_after, unread_of}
 use Rattle.gd_top.proofs.RunLemmas.Said.{err_of, ok_of}
 use Rattle.gd_top.proofs.item.opening.open_once.Goals as goal
 
@@ -107,37 +108,10 @@ returns-then-cuts_armed-armed-clause-does g c =
     subst (λ ended. Opens c.args.is_making ended was now) (sym c.unless_failed-then-cuts_armed-armed.ensures)
     (opens_fell c.args.is_making was now lap counts machine (λ l i. c.in-Off-Some-default.ensures.draws l i ∙ ap (λ draws. g.W.Draws.block_of draws l i) c.find_lap.ensures.draws) r _ gives given.later given.cause
     (λ flight wanted in_it s fits. fell_to c.args.is_making was mid lap image read now (c.in-Off-Some-default.ensures.found ∙ d.found ∙ h.listed) machine counts flight wanted in_it s fits v unready.shown r cut down.calls falls unready.either gives)
-    (down_after c.args.is_making was _ lap mid now down read.armed (d.size ∙ c.power_on.ensures.counts.size) cut machine c.in-Off-Some-default.ensures.size c.in-Off-Some-default.ensures.is_off
+    (down_after c.args.is_making was _ lap mid now down read.armed (d.size ∙ c.power_on.ensures.counts.size) cut machine (c.fall.ensures.given ∙ ap (λ (x : Counts). x.given) counted) c.in-Off-Some-default.ensures.size c.in-Off-Some-default.ensures.is_off
     (lap_room c.args.is_making was c.args.is_making mid lap image down.tells read.seen read.lap_found down.laps c.requires.making) c.fall.ensures.lap counts.power_ons
     (c.fall.ensures.calls ∙ ap (λ (x : Counts). drop 1 x.calls.items) counted) falls)
     refl (fewer_after c.args.is_making was _ mid now read.armed cut) (cut.no_fault ∙ ok_of c.find_lap.result _ went d.no_fault ∙ ok_of c.power_on.result _ ok c.power_on.ensures.no_fault))
-
-pub unreachable-requires : goal.unreachable-requires
-unreachable-requires g c =
-    let parts = c.args.parts in
-    let k = c.args.counts.now in
-    let k2 = c.find_lap.new.counts in
-    let lap = k2.lap in
-    let down = c.requires.down in
-    let mid_parts = c.find_lap.new.parts in
-    let M = g.C.Core.meaning parts.core in
-    let N = g.C.Core.meaning mid_parts.core in
-    let B = g.W.Draws.block_of parts.draws in
-    let C = g.W.Draws.block_of mid_parts.draws in
-    let on = g.L.Disk.state c.power_on.new.self in
-    let mid = g.L.Disk.state mid_parts.disk in
-    let was = moment_closed Off g.C.Core.meaning g.C.Core.view g.L.Disk.state g.W.Draws.block_of g.K.Sink.taken g.K.Sink.faults parts k c.args.output.now in
-    let ok = sym c.is_err.ensures.value ∙ c.if-is_err.false in
-    let h = ok_of c.power_on.result _ ok c.power_on.ensures.found in
-    let image = h.image in
-    let d = c.find_lap.ensures.disk in
-    let counted = c.find_lap.ensures.counts in
-    let power_ons = ap (λ (x : Counts). x.power_ons) counted in
-    let went = sym c.is_err-2.ensures.value ∙ c.if-is_err-2.false in
-    let read = has_read c.args.is_making was on mid lap down h c.power_on.ensures.counts.size (ok_of c.power_on.result _ ok c.power_on.ensures.synced) c.power_on.ensures.armed c.power_on.ensures.counts.syncs
-    (ok_of c.find_lap.result _ went c.find_lap.ensures.lap) d.images (ok_of c.find_lap.result _ went d.seen) d.armed d.syncs in
-    let told = told_at mid.seen image _ read.seen c.in-Differs.ensures.what in
-    not_foreign N (subst TellsApart (sym c.find_lap.ensures.meaning) down.tells) image c.in-Differs.kept told.1
 
 pub returns-in-Ready-clause-does : goal.returns-in-Ready-clause-does
 returns-in-Ready-clause-does g c =
@@ -189,7 +163,8 @@ returns-in-Ready-clause-does g c =
     (λ flight wanted in_it s fits. viewed_to c.args.is_making was mid lap image read now (c.in-Ready.ensures.found ∙ d.found ∙ h.listed) machine counts flight wanted in_it s fits v ready.shown r refl ready.started (_, cabinet.spelled) ready.run
     (ap (λ (x : Counts). x.falls.items) counted) ready.both gives)
     (record {
-      tells = subst TellsApart (sym machine) down.tells;
+      tells = subst TellsViews (sym machine) down.tells;
+      given = ap (λ (x : Counts). x.given) counted ∙ down.given ∙ ap (λ O. O.digest) (sym machine);
       size = c.in-Ready.ensures.size ∙ d.size ∙ c.power_on.ensures.counts.size ∙ down.size;
       power = c.in-Ready.ensures.is_on;
       runs = c.in-Ready.ensures.ready.0;
@@ -247,7 +222,8 @@ returns-in-Locked-clause-does g c =
     (λ flight wanted in_it s fits. locked_to c.args.is_making was mid lap image read now (c.in-Locked.ensures.found ∙ d.found ∙ h.listed) machine counts flight wanted in_it s fits r refl shut untouched.2 untouched.1
     (ap (λ (x : Counts). x.falls.items) counted) (read_alone mid disk image read.seen read.synced unwritten) gives)
     (record {
-      tells = subst TellsApart (sym machine) down.tells;
+      tells = subst TellsViews (sym machine) down.tells;
+      given = ap (λ (x : Counts). x.given) counted ∙ down.given ∙ ap (λ O. O.digest) (sym machine);
       size = c.in-Locked.ensures.size ∙ d.size ∙ c.power_on.ensures.counts.size ∙ down.size;
       power = c.in-Locked.ensures.stays_on.0;
       runs = refl;
@@ -259,6 +235,51 @@ returns-in-Locked-clause-does g c =
       synced = λ is. shut_synced mid disk image read.seen read.synced unwritten untouched.0;
     })
     refl (c.in-Locked.ensures.stays_on.2 ∙ ok_of c.find_lap.result _ went d.no_fault ∙ ok_of c.power_on.result _ ok c.power_on.ensures.no_fault) (still_after c.args.is_making was now down cuts same_calls))
+
+pub returns-in-Differs-clause-does : goal.returns-in-Differs-clause-does
+returns-in-Differs-clause-does g c =
+    let parts = c.args.parts in
+    let k = c.args.counts.now in
+    let k2 = c.find_lap.new.counts in
+    let lap = k2.lap in
+    let down = c.requires.down in
+    let mid_parts = c.find_lap.new.parts in
+    let M = g.C.Core.meaning parts.core in
+    let N = g.C.Core.meaning mid_parts.core in
+    let B = g.W.Draws.block_of parts.draws in
+    let C = g.W.Draws.block_of mid_parts.draws in
+    let on = g.L.Disk.state c.power_on.new.self in
+    let mid = g.L.Disk.state mid_parts.disk in
+    let was = moment_closed Off g.C.Core.meaning g.C.Core.view g.L.Disk.state g.W.Draws.block_of g.K.Sink.taken g.K.Sink.faults parts k c.args.output.now in
+    let ok = sym c.is_err.ensures.value ∙ c.if-is_err.false in
+    let h = ok_of c.power_on.result _ ok c.power_on.ensures.found in
+    let image = h.image in
+    let d = c.find_lap.ensures.disk in
+    let counted = c.find_lap.ensures.counts in
+    let power_ons = ap (λ (x : Counts). x.power_ons) counted in
+    let went = sym c.is_err-2.ensures.value ∙ c.if-is_err-2.false in
+    let read = has_read c.args.is_making was on mid lap down h c.power_on.ensures.counts.size (ok_of c.power_on.result _ ok c.power_on.ensures.synced) c.power_on.ensures.armed c.power_on.ensures.counts.syncs
+    (ok_of c.find_lap.result _ went c.find_lap.ensures.lap) d.images (ok_of c.find_lap.result _ went d.seen) d.armed d.syncs in
+    let left = c.in-Differs.parts in
+    let disk = g.L.Disk.state left.disk in
+    let given = c.give_text-given-in-Differs.ensures in
+    let r = c.give_text-given-in-Differs.result in
+    let now = moment_closed Locked g.C.Core.meaning g.C.Core.view g.L.Disk.state g.W.Draws.block_of g.K.Sink.taken g.K.Sink.faults left (record k2 { offers = k2.offers + 1 }) c.give_text-given-in-Differs.new.output in
+    let counts : CountsOpened k (record k2 { offers = k2.offers + 1 }) lap = record { lines = ap (λ (x : Counts). x.lines) counted; power_ons = power_ons; lap_is = refl; offers = ap (λ (x : Counts). x.offers + 1) counted } in
+    let machine = c.in-Differs.ensures.meaning ∙ c.find_lap.ensures.meaning in
+    let told = told_at mid.seen image _ read.seen c.in-Differs.ensures.what in
+    let kept = c.in-Differs.kept in
+    let shown : shows M image ≡ Foreign kept = subst (λ m. shows m image ≡ Foreign kept) c.find_lap.ensures.meaning told.1 in
+    let untouched = told_at mid.seen image _ read.seen c.in-Differs.ensures.untouched in
+    let unwritten = told_at mid.seen image _ read.seen c.in-Differs.ensures.unwritten in
+    let given_is : k2.given ≡ M.digest = ap (λ (x : Counts). x.given) counted ∙ down.given in
+    let text = c.write_differs.ensures ∙ ap (λ (f : Found). power_line k2.power_ons f ++ differs_line kept k2.given) told.0 ∙ ap (λ (m : ℕ). power_line m (found_in LAYOUT image) ++ differs_line kept k2.given) power_ons
+    ∙ ap (λ (digest : List ℕ). power_line (k.power_ons + 1) (found_in LAYOUT image) ++ differs_line kept digest) given_is in
+    let gives = subst (GivesText r _ _) text given.given in
+    subst (λ ended. Opens c.args.is_making ended was now) (sym c.unless_failed-in-Differs.ensures)
+    (opens_differs c.args.is_making was now lap counts machine (λ l i. c.in-Differs.ensures.draws l i ∙ ap (λ draws. g.W.Draws.block_of draws l i) c.find_lap.ensures.draws) r _ gives given.later given.cause
+    (λ flight wanted in_it s fits. differs_to c.args.is_making was mid lap image read now (c.in-Differs.ensures.found ∙ d.found ∙ h.listed) machine counts flight wanted in_it s fits r kept shown untouched.2 untouched.1
+    (ap (λ (x : Counts). x.falls.items) counted) (read_alone mid disk image read.seen read.synced unwritten) c.in-Differs.ensures.stays_on.0 (shut_synced mid disk image read.seen read.synced unwritten untouched.0) gives))
 
 pub returns-else-cuts_armed-armed-clause-does : goal.returns-else-cuts_armed-armed-clause-does
 returns-else-cuts_armed-armed-clause-does g c =

@@ -1,10 +1,10 @@
 use Rattle.std.proofs.Common.{◌∙◌, ap, sym, subst, refl, ℕ, List, [], ◌+◌, ◌++◌, arith, codes}
-use Rattle.gd_base.specs.Laws.TellsViews.{HasPayload}
+use Rattle.gd_base.specs.Laws.TellsViews.{HasPayload, TellsViews}
 use Rattle.gd_cabinet.specs.Cabinet.{cabinet_core, cabinet_draws}
 use Rattle.gd_cabinet.specs.Shown.{IsInBoth}
 use Rattle.gd_script.specs.declared.item.Item.{Item}
 use Rattle.gd_top.specs.Claims.MemoryLeft.{IsMasked}
-use Rattle.gd_top.specs.Code.Memory.{AreCounted, TellsApart, moment_on, moment_closed, outside}
+use Rattle.gd_top.specs.Code.Memory.{AreCounted, moment_on, moment_closed, outside}
 use Rattle.gd_top.specs.Code.Parts.{GivesText}
 use Rattle.gd_top.specs.Run.Items.{item_meaning}
 use Rattle.gd_top.specs.Run.Offers.{AreArmed}
@@ -63,7 +63,8 @@ returns g c = λ k sits.
           ));
       leaves = record {
         sits = λ serves. record {
-          tells = subst TellsApart (sym machine) sits.tells;
+          tells = subst TellsViews (sym machine) sits.tells;
+          given = sits.given ∙ ap (λ O. O.digest) (sym machine);
           size = c.power_off.ensures.counts.size ∙ ap (λ d. (g.L.Disk.state d).size) same ∙ sits.size;
           power = c.power_off.ensures.power;
           runs = refl;
