@@ -3,6 +3,7 @@
 
 mod events;
 mod fields;
+mod generating;
 mod item;
 mod items;
 mod keyword;
@@ -18,9 +19,11 @@ mod tests;
 mod words;
 
 pub use gd_disk::Side;
+pub use generating::generate;
 pub use item::{Item, LineFault, OrderWord};
 pub use limits::{
-    LAST_PLACE, LEAST_CUT, LEAST_PICK, LINE_LEN, MOST_BET, MOST_CUT, MOST_MASK, MOST_NUMBER,
+    LAST_PLACE, LEAST_CUT, LEAST_PICK, LINE_LEN, MOST_BET, MOST_CUT, MOST_GENERATED, MOST_MASK,
+    MOST_NUMBER,
 };
 pub use printing::print_item;
 pub use reading::read_line;

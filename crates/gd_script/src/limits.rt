@@ -26,6 +26,9 @@ pub const LAST_PLACE: u64 = COPY_LEN as u64 - 1;
 /// The greatest byte that is combined with one of a copy.
 pub const MOST_MASK: u8 = 255;
 
+/// The items that a soak run can have: `generate` gives those of the places below.
+pub const MOST_GENERATED: u64 = 100_000;
+
 /// The most digits of a number.
 pub(crate) const NUMBER_LEN: usize = 20;
 
@@ -63,6 +66,8 @@ const _: () = prove!(MOST_CUT == 100_000);
 const _: () = prove!(LAST_PLACE == 17_456);
 
 const _: () = prove!(MOST_MASK == 255);
+
+const _: () = prove!(MOST_GENERATED == 100_000);
 
 const _: () = prove!(NUMBER_LEN == 20);
 

@@ -1,7 +1,8 @@
 //! What no clause says: that the definitions are the grammar of docs/FORMATS.md. Each row of it once and at the ends of
-//! its ranges, read and printed back, and lines that are nearly of it.
+//! its ranges, read and printed back, and lines that are nearly of it. And that the definition of a soak run's items is
+//! their rule.
 
-use crate::{Item, LineFault, OrderWord, Side, print_item, read_line};
+use crate::{Item, LineFault, MOST_GENERATED, OrderWord, Side, generate, print_item, read_line};
 use gd_base::{Colour, Device, Door, Event, Game, Text, Tilt, What};
 use gd_disk::CutUnit;
 
@@ -205,6 +206,86 @@ const COMMENTS: &[&[u8]] = &[
     &[b'#'; 120],
 ];
 
+/// Seeds and places of soak runs, and the lines of the items there, computed from the rule by another program, whose
+/// words were compared with known ones of SplitMix64. Each of the 32 kinds is among them, each bill, bet, pick and door,
+/// each thing that the attendant does, each count and each loss of a cut, and both ends of the places.
+#[rattlefmt::skip]
+const GENERATED: &[(u64, u64, &str)] = &[
+    (0, 0, "play poker 1"),
+    (0, 29_271, "voucher 29272 10000"),
+    (0, 99_750, "cut sync 1 0"),
+    (0, 99_999, "play poker 5"),
+    (7, 0, "black"),
+    (7, 1, "printed open"),
+    (7, 2, "bill 1000"),
+    (7, 3, "play reels 9"),
+    (7, 4, "take"),
+    (7, 6, "pick 4"),
+    (7, 7, "shut main"),
+    (7, 8, "bill 10000"),
+    (7, 9, "play reels 2"),
+    (7, 10, "play reels 8"),
+    (7, 11, "play reels 9"),
+    (7, 12, "play poker 4"),
+    (7, 13, "play poker 5"),
+    (7, 14, "coin 25"),
+    (7, 16, "play poker 2"),
+    (7, 17, "voucher 18 5063"),
+    (7, 18, "pick 4"),
+    (7, 21, "play reels 6"),
+    (7, 22, "coin-paid open"),
+    (7, 24, "play poker 3"),
+    (7, 25, "play reels 7"),
+    (7, 27, "clear-tilt bill-jam"),
+    (7, 31, "play reels 5"),
+    (7, 32, "play reels 3"),
+    (7, 33, "hold 01100"),
+    (7, 34, "bill 5000"),
+    (7, 37, "pick 5"),
+    (7, 39, "cashout"),
+    (7, 40, "bill 2000"),
+    (7, 49, "play reels 4"),
+    (7, 50, "play reels 8"),
+    (7, 64, "take"),
+    (7, 67, "bill 5000"),
+    (7, 69, "pick 3"),
+    (7, 74, "bill 5000"),
+    (7, 78, "hold 01001"),
+    (7, 83, "pick 2"),
+    (7, 86, "pick 1"),
+    (7, 90, "play reels 1"),
+    (7, 125, "hold 00000"),
+    (7, 126, "open main"),
+    (7, 128, "bill 100"),
+    (7, 141, "handpay"),
+    (7, 232, "hold 10000"),
+    (7, 249, "take"),
+    (7, 250, "cut sync 6 3"),
+    (7, 251, "coin-paid open"),
+    (7, 386, "hold 00001"),
+    (7, 500, "red"),
+    (7, 503, "hold 11111"),
+    (7, 749, "take"),
+    (7, 750, "cut sync 4 1"),
+    (7, 751, "red"),
+    (7, 1_000, "play reels 3"),
+    (7, 1_750, "cut sync 2 1"),
+    (7, 2_750, "cut sync 1 0"),
+    (7, 3_250, "cut sync 5 2"),
+    (7, 4_250, "cut sync 3 2"),
+    (7, 99_750, "cut sync 3 2"),
+    (7, 99_999, "hold 10110"),
+    (1_234_567, 0, "bill 1000"),
+    (1_234_567, 1, "bill 500"),
+    (1_234_567, 2, "black"),
+    (1_234_567, 3, "bill-jam"),
+    (1_234_567, 4, "play reels 9"),
+    (1_234_567, 99_999, "play poker 5"),
+    (u64::MAX, 0, "bill 500"),
+    (u64::MAX, 99_750, "cut sync 6 3"),
+    (u64::MAX, 99_999, "red"),
+];
+
 #[test]
 fn each_row_is_read_and_printed_back(rt: HostRuntime) {
     // What stands in the text of the row before is gone with the next one.
@@ -242,4 +323,13 @@ fn a_text_with_something_in_it_is_emptied(rt: HostRuntime) {
     text.push_str("cut call 7 2\n");
     print_item(&Item::Skip, &mut text);
     assert_eq!(rt; text.as_str(), "#\n");
+}
+
+#[test]
+fn items_of_a_soak_run(rt: HostRuntime) {
+    for (seed, place, line) in GENERATED {
+        assert!(rt; *place < MOST_GENERATED);
+        let item = generate(*seed, *place);
+        assert_eq!(rt; read_line(line.as_bytes()), Ok(item), "{seed} {place}");
+    }
 }
