@@ -1,0 +1,4 @@
+mod Meanings
+mod Numbers
+mod Taken
+mod TableRows
