@@ -7,7 +7,6 @@ pub mod StageLemmas
 pub mod PayloadLemmas
 pub mod Effects
 pub mod PreservedLemmas
-pub mod SoFarLemmas
 mod OutsideLemmas
 mod TextLemmas
 mod ExampleLemmas

@@ -6,7 +6,6 @@ pub mod OneSpelled
 pub mod Same
 pub mod Itself
 pub mod EmptyView
-pub mod Views
 pub mod Lengths
 pub mod RecordsBack
 pub mod ListsBack

@@ -5,4 +5,3 @@ pub mod Machine
 pub mod Legal
 pub mod Answer
 pub mod Product
-pub mod SoFar

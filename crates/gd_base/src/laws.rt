@@ -6,6 +6,5 @@ pub mod examples;
 pub mod indexes;
 pub mod payloads;
 pub mod rules;
-pub mod so_far;
 pub mod starts;
 pub mod views;

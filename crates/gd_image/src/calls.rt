@@ -26,6 +26,13 @@ impl Platform {
         Ok(Platform { machine })
     }
 
+    /// The digest of its setup.
+    pub fn digest(&self) -> &[u8; 32]
+        ensures { result.now ≡ digest_of (platform_setup self.now) }
+    {
+        self.machine.digest()
+    }
+
     /// The open order, with the cents that remain to be paid.
     pub fn order(&self) -> Option<Order>
         ensures { result ≡ (platform_view self.now).order }

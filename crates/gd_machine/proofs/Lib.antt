@@ -12,6 +12,6 @@ mod PlaysRoom
 mod PlaysSettled
 mod Printed
 mod Refusals
-mod Telling
+pub mod Telling
 mod Turns
 mod Wholes

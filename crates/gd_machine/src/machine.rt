@@ -171,7 +171,7 @@ fn bytes_fit(bytes: &[u8])
 {}
 
 /// What the type of a digest makes true.
-fn digest_fits(digest: &[u8; 32])
+pub(crate) fn digest_fits(digest: &[u8; 32])
     ensures long { length digest.now ≡ 32 }
     ensures bytes { list_all (λ b. nat_lt b 256) digest.now ≡ true }
 {

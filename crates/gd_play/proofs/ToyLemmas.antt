@@ -16,7 +16,6 @@ use Rattle.gd_base.specs.declared.tables.TheConstants.{LINES, SYMBOLS}
 use Rattle.gd_base.specs.Games.Chance.{final_hand, hand_pay, rank, rank_place, row, stops, pick, pay_of_run, run_length, pays_on, greatest, letters_on, line_wins, window, prize}
 use Rattle.gd_base.specs.Histories.Credit.{wager}
 use Rattle.gd_base.specs.Histories.Rounds.{choices_of, no_choices}
-use Rattle.gd_base.specs.Judging.SoFar.{is_reels}
 use Rattle.gd_base.specs.Payloads.ViewRules.{is_in, is_play_record, is_played}
 use Rattle.gd_base.specs.Games.Stage.{base_win, gamble_stage, has_pick, is_right, lines_win, stage, stage_with, win_after, are_choices, is_stage}
 use Rattle.gd_base.specs.Judging.Product.{both_hold}
@@ -97,31 +96,29 @@ shows_pick setup words long five whole all =
 
 -- ================ the stages
 
-pub stage_of_pick : (setup : Setup) (game : Game) (bet : ℕ) (words : List ℕ) (c : Choices) → is_reels game ≡ true → c.choice ≡ None → has_pick setup words ≡ true
-    → stage setup game bet words c ≡ record { phase = StageOpen.Pick; win = 0 }
-stage_of_pick setup Game.Reels bet words c reels none shown =
+pub stage_of_pick : (setup : Setup) (bet : ℕ) (words : List ℕ) (c : Choices) → c.choice ≡ None → has_pick setup words ≡ true
+    → stage setup Game.Reels bet words c ≡ record { phase = StageOpen.Pick; win = 0 }
+stage_of_pick setup bet words c none shown =
     let base : base_win setup Game.Reels bet words c.choice ≡ None =
     ap (base_win setup Game.Reels bet words) none ∙ ap (λ (b : Bool). if b then None else Some (lines_win setup bet words)) shown
     in
     ap (stage_with setup Game.Reels words c) base
-stage_of_pick setup Game.Poker bet words c reels none shown = absurd (cc reels)
 
-pub stage_of_door : (setup : Setup) (game : Game) (bet door base : ℕ) (words : List ℕ) (c : Choices) → is_reels game ≡ true → c.choice ≡ Some door
+pub stage_of_door : (setup : Setup) (bet door base : ℕ) (words : List ℕ) (c : Choices) → c.choice ≡ Some door
     → list_all is_none setup.reel_pays ≡ true → base ≡ prize setup words door * bet * setup.denom
-    → stage setup game bet words c ≡ gamble_stage setup c.turns (win_after words c.colours base c.turns)
-stage_of_door setup Game.Reels bet door base words c reels some none is =
+    → stage setup Game.Reels bet words c ≡ gamble_stage setup c.turns (win_after words c.colours base c.turns)
+stage_of_door setup bet door base words c some none is =
     let lines : lines_win setup bet words ≡ 0 = ap (λ (n : ℕ). n * setup.denom) (no_wins setup (window setup words) bet none) ∙ zero-mul setup.denom in
     let won : lines_win setup bet words + prize setup words door * bet * setup.denom ≡ base = omega (arith, lines, is) in
     let known : base_win setup Game.Reels bet words c.choice ≡ Some base = ap (base_win setup Game.Reels bet words) some ∙ ap Some won in
     ap (stage_with setup Game.Reels words c) known
-stage_of_door setup Game.Poker bet door base words c reels some none is = absurd (cc reels)
 
 -- a play that begins keeps the rules of an open play
 pub opens_at_pick : (setup : Setup) (p : PlayRecord) → is_play_record p ≡ true → p.game ≡ Game.Reels → p.wager ≡ wager setup p.bet → choices_of p ≡ no_choices → p.win ≡ 0 → p.after ≡ 0
     → has_pick setup p.words ≡ true → is_open_play setup p ≡ true
 opens_at_pick setup p rules reels paid fresh no_win no_after shown =
     let at : stage setup p.game p.bet p.words (choices_of p) ≡ record { phase = StageOpen.Pick; win = 0 } =
-    stage_of_pick setup p.game p.bet p.words (choices_of p) (ap is_reels reels) (ap (λ (c : Choices). c.choice) fresh) shown
+    ap (λ (g : Game). stage setup g p.bet p.words (choices_of p)) reels ∙ stage_of_pick setup p.bet p.words (choices_of p) (ap (λ (c : Choices). c.choice) fresh) shown
     in
     let choices : are_choices setup p.game p.bet p.words (choices_of p) ≡ true = ap (are_choices setup p.game p.bet p.words) fresh ∙ fresh_choices setup p.game p.bet p.words in
     let win : (p.win == (stage setup p.game p.bet p.words (choices_of p)).win) ≡ true = is_equal p.win _ (no_win ∙ sym (ap (λ (s : Stage). s.win) at)) in

@@ -1,7 +1,7 @@
+mod RulesKept
 mod RunLemmas
 mod ScriptLemmas
 mod ItemLemmas
 mod LineLemmas
 mod TrialLemmas
-mod FirstCoreLemmas
 mod ExampleLemmas

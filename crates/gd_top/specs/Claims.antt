@@ -1,4 +1,5 @@
 -- What the public calls claim.
+pub mod AllRules
 pub mod MemoryLeft
 pub mod OneHistory
 pub mod NothingLost

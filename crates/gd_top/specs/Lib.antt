@@ -3,5 +3,4 @@ pub mod Script
 pub mod Report
 pub mod Code
 pub mod Claims
-pub mod FirstCore
 pub mod Examples

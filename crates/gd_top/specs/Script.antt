@@ -1,4 +1,4 @@
--- A script as its lines, and the items that are built.
+-- A script as its lines, and kinds of items.
 pub mod Lines
 pub mod LineTaken
-pub mod Built
+pub mod Kinds

@@ -2,8 +2,8 @@
 #![tactic(auto)]
 
 mod command;
+mod core_call;
 mod ended;
-mod first_core;
 mod halt;
 mod item;
 mod laws;
@@ -14,7 +14,8 @@ mod script;
 mod status;
 mod top_call;
 
-pub use ended::{Ended, Falls};
+pub use core_call::carry;
+pub use ended::{Carried, Ended, Falls};
 pub use laws::{all_rules_kept, example_reports, nothing_lost, one_legal_history};
 pub use program::run_program;
 pub use status::Status;

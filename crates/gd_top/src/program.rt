@@ -4,7 +4,7 @@ ghost use Rattle.std.specs.Prelude.{◌≡◌, ◌⊎◌, false, IfOk, IsErr, dr
 ghost use Rattle.std.specs.Io.KnownBytes.{Appends};
 ghost use Rattle.std.specs.Process.{exit_status};
 ghost use Rattle.std.specs.String.{string_bytes};
-ghost use Rattle.gd_base.specs.Judging.SoFar.{machine_so_far};
+ghost use Rattle.gd_machine.specs.Meaning.{the_machine};
 ghost use Rattle.gd_base.specs.Outside.Causes.{Rose};
 ghost use Rattle.gd_base.specs.Outside.KeyStream.{seeded_block};
 ghost use Rattle.gd_base.specs.Setups.BuiltIn.{built_in_setup};
@@ -124,20 +124,20 @@ fn carry_out<S: Source, K: Sink>(
     output: &mut K,
 ) -> Result<Ended<MemoryLab, MemoryDisk, ChaChaDraws>, AllocError>
     ensures done { IfOk result (λ ended. ended.status ≡ Status.Done → (lab : MemoryLab)
-        × WroteReport (machine_so_far built_in_setup) (seeded_block 1) Status.Done ended.falls.items
+        × WroteReport (the_machine built_in_setup) (seeded_block 1) Status.Done ended.falls.items
         (outer S.left S.faults K.taken K.faults lab_state input.old output.old lab)
         (outer S.left S.faults K.taken K.faults lab_state input.new output.new ended.lab)) }
     ensures locked { IfOk result (λ ended. ended.status ≡ Status.Locked → (lab : MemoryLab)
-        × WroteReport (machine_so_far built_in_setup) (seeded_block 1) Status.Locked ended.falls.items
+        × WroteReport (the_machine built_in_setup) (seeded_block 1) Status.Locked ended.falls.items
         (outer S.left S.faults K.taken K.faults lab_state input.old output.old lab)
         (outer S.left S.faults K.taken K.faults lab_state input.new output.new ended.lab)) }
     ensures script_fault { IfOk result (λ ended. ended.status ≡ Status.ScriptFault → (lab : MemoryLab)
-        × WroteReport (machine_so_far built_in_setup) (seeded_block 1) Status.ScriptFault
+        × WroteReport (the_machine built_in_setup) (seeded_block 1) Status.ScriptFault
         ended.falls.items
         (outer S.left S.faults K.taken K.faults lab_state input.old output.old lab)
         (outer S.left S.faults K.taken K.faults lab_state input.new output.new ended.lab)) }
     ensures differs { IfOk result (λ ended. ended.status ≡ Status.SetupDiffers → (lab : MemoryLab)
-        × WroteReport (machine_so_far built_in_setup) (seeded_block 1) Status.SetupDiffers
+        × WroteReport (the_machine built_in_setup) (seeded_block 1) Status.SetupDiffers
         ended.falls.items
         (outer S.left S.faults K.taken K.faults lab_state input.old output.old lab)
         (outer S.left S.faults K.taken K.faults lab_state input.new output.new ended.lab)) }

@@ -1,23 +1,24 @@
 //! The top call.
 
-ghost use Rattle.std.specs.Prelude.{◌≡◌, ◌⊎◌, true, false, []};
+ghost use Rattle.std.specs.Prelude.{◌≡◌, ◌⊎◌, true, false, [], IfOk};
 ghost use Rattle.std.specs.Io.KnownBytes.{Appends, IsAtEnd};
-ghost use Rattle.gd_base.specs.Judging.SoFar.{machine_so_far};
 ghost use Rattle.gd_base.specs.Outside.Blocks.{AreBlocks};
 ghost use Rattle.gd_base.specs.Outside.Causes.{Rose};
 ghost use Rattle.gd_base.specs.Setups.BuiltIn.{built_in_setup};
+ghost use Rattle.gd_image.specs.Words.{platform_setup, platform_view};
+ghost use Rattle.gd_machine.specs.Meaning.{the_machine};
 ghost use Rattle.gd_top.specs.Claims.Trial.{is_trial, no_memory_text, outer, usage_text, CabinetDone, EndsAsTold, GivesLast, HasCauses, IsBuilt, IsUnopened, WroteBroken, WroteFrontOf, WroteReport, WroteToFault};
 
 use crate::command::trial::run_trial;
 use crate::ended::{Ended, Falls};
-use crate::first_core::FirstCore;
 use crate::status::Status;
-use gd_base::{Draws, Sink, Source};
+use gd_base::{Draws, Setup, Sink, Source};
 use gd_cabinet::Parts;
 use gd_disk::{DISK_LEN, Disk, LabDisk};
 use gd_games::built_in;
+use gd_image::Platform;
 use gd_store::Room;
-use std::alloc::Global;
+use std::alloc::{AllocError, Global};
 
 /// Whether the words are exactly `trial`.
 fn are_trial(words: &[&str]) -> bool
@@ -58,6 +59,16 @@ fn refuse<K: Sink, L, D, W>(
     }
 }
 
+/// Takes all memory of a run: a machine of the empty history under a setup, and the room of its disk.
+fn take_memory(alloc: Global, setup: Setup) -> Result<(Platform, Room), AllocError>
+    ensures setup { IfOk result (λ taken. platform_setup taken.0 ≡ setup) }
+    ensures empty { IfOk result (λ taken. platform_view taken.0 ≡ (the_machine setup).empty) }
+{
+    let core = Platform::new(alloc, setup)?;
+    let room = Room::new(alloc)?;
+    Ok((core, room))
+}
+
 /// Carries out the command that the words name, and says how it ended, with all that was handed in.
 fn command<S: Source, K: Sink, L: LabDisk, D: Disk, W: Draws>(
     alloc: Global,
@@ -72,7 +83,7 @@ fn command<S: Source, K: Sink, L: LabDisk, D: Disk, W: Draws>(
     requires is_on { (L.state lab).is_on ≡ true }
     requires armed { (L.state lab).armed ≡ [] }
     requires found { (L.state lab).found ≡ [] }
-    ensures done { CabinetDone (machine_so_far built_in_setup) (W.block_of draws) (is_trial words.now)
+    ensures done { CabinetDone (the_machine built_in_setup) (W.block_of draws) (is_trial words.now)
         result.status result.falls.items
         (outer S.left S.faults K.taken K.faults L.state input.old output.old lab)
         (outer S.left S.faults K.taken K.faults L.state input.new output.new result.lab) }
@@ -89,10 +100,10 @@ fn command<S: Source, K: Sink, L: LabDisk, D: Disk, W: Draws>(
     if !are_trial(words) {
         return refuse(Status::Usage, "usage\n", output, lab, disk, draws);
     }
-    match Room::new(alloc) {
-        Ok(room) => {
+    match take_memory(alloc, built_in()) {
+        Ok((core, room)) => {
             let parts = Parts {
-                core: FirstCore::new(built_in()),
+                core,
                 disk: lab,
                 draws,
                 room,
@@ -133,7 +144,7 @@ pub fn cabinet<S: Source, C: Source, K: Sink, L: LabDisk, D: Disk, W: Draws>(
     requires found { (L.state lab).found ≡ [] }
     // 0: the input was taken to its end, and the whole report was written.
     ensures done { result.status ≡ Status.Done
-        → WroteReport (machine_so_far built_in_setup) (W.block_of draws) Status.Done result.falls.items
+        → WroteReport (the_machine built_in_setup) (W.block_of draws) Status.Done result.falls.items
         (outer S.left S.faults K.taken K.faults L.state input.old output.old lab)
         (outer S.left S.faults K.taken K.faults L.state input.new output.new result.lab)
         × IsAtEnd (S.left input.new) }
@@ -146,29 +157,29 @@ pub fn cabinet<S: Source, C: Source, K: Sink, L: LabDisk, D: Disk, W: Draws>(
         × (input.new ≡ input.old) }
     // 3: the lines whose LF was taken were carried out.
     ensures read_fault { result.status ≡ Status.ReadFault
-        → WroteToFault (machine_so_far built_in_setup) (W.block_of draws) result.falls.items
+        → WroteToFault (the_machine built_in_setup) (W.block_of draws) result.falls.items
         (outer S.left S.faults K.taken K.faults L.state input.old output.old lab)
         (outer S.left S.faults K.taken K.faults L.state input.new output.new result.lab) }
     // 4: a front of what is told was written.
     ensures write_fault { result.status ≡ Status.WriteFault
-        → WroteFrontOf (machine_so_far built_in_setup) (W.block_of draws) (is_trial words.now)
+        → WroteFrontOf (the_machine built_in_setup) (W.block_of draws) (is_trial words.now)
         result.falls.items
         (outer S.left S.faults K.taken K.faults L.state input.old output.old lab)
         (outer S.left S.faults K.taken K.faults L.state input.new output.new result.lab) }
     // 5: what is told up to there was written.
     ensures disk_fault { result.status ≡ Status.DiskFault
-        → WroteBroken (machine_so_far built_in_setup) (W.block_of draws) result.falls.items
+        → WroteBroken (the_machine built_in_setup) (W.block_of draws) result.falls.items
         (outer S.left S.faults K.taken K.faults L.state input.old output.old lab)
         (outer S.left S.faults K.taken K.faults L.state input.new output.new result.lab) }
     // 6: the report of the lines before the first faulty one, and its number.
     ensures script_fault { result.status ≡ Status.ScriptFault
-        → WroteReport (machine_so_far built_in_setup) (W.block_of draws) Status.ScriptFault
+        → WroteReport (the_machine built_in_setup) (W.block_of draws) Status.ScriptFault
         result.falls.items
         (outer S.left S.faults K.taken K.faults L.state input.old output.old lab)
         (outer S.left S.faults K.taken K.faults L.state input.new output.new result.lab) }
     // 7: as 0, over a memory that stands locked.
     ensures locked { result.status ≡ Status.Locked
-        → WroteReport (machine_so_far built_in_setup) (W.block_of draws) Status.Locked result.falls.items
+        → WroteReport (the_machine built_in_setup) (W.block_of draws) Status.Locked result.falls.items
         (outer S.left S.faults K.taken K.faults L.state input.old output.old lab)
         (outer S.left S.faults K.taken K.faults L.state input.new output.new result.lab)
         × IsAtEnd (S.left input.new) }
@@ -177,7 +188,7 @@ pub fn cabinet<S: Source, C: Source, K: Sink, L: LabDisk, D: Disk, W: Draws>(
         (K.taken output.new) no_memory_text }
     // 11: the report up to the opening that found a memory of another setup, which is as it was found.
     ensures differs { result.status ≡ Status.SetupDiffers
-        → WroteReport (machine_so_far built_in_setup) (W.block_of draws) Status.SetupDiffers
+        → WroteReport (the_machine built_in_setup) (W.block_of draws) Status.SetupDiffers
         result.falls.items
         (outer S.left S.faults K.taken K.faults L.state input.old output.old lab)
         (outer S.left S.faults K.taken K.faults L.state input.new output.new result.lab) }
@@ -191,7 +202,7 @@ pub fn cabinet<S: Source, C: Source, K: Sink, L: LabDisk, D: Disk, W: Draws>(
     ensures exact { is_trial words.now ≡ true → (Rose (S.faults input.old) (S.faults input.new) → ⊥)
         → (Rose (K.faults output.old) (K.faults output.new) → ⊥)
         → (Rose (L.state lab).faults (L.state result.lab).faults → ⊥)
-        → EndsAsTold (machine_so_far built_in_setup) (W.block_of draws) result.status
+        → EndsAsTold (the_machine built_in_setup) (W.block_of draws) result.status
         result.falls.items
         (outer S.left S.faults K.taken K.faults L.state input.old output.old lab)
         (outer S.left S.faults K.taken K.faults L.state input.new output.new result.lab) }

@@ -9,11 +9,10 @@ use Rattle.gd_base.specs.declared.setup.Setup.{Setup}
 use Rattle.gd_base.specs.Judging.Draws.{next_index, is_drawn}
 use Rattle.gd_base.specs.Histories.Entry.{Entry, is_taken}
 use Rattle.gd_base.specs.Histories.History.{Origin}
-use Rattle.gd_base.specs.Laws.Indexes.{MovesIndex, RiseStrictly, NoneIsZero, RiseSoFar}
+use Rattle.gd_base.specs.Laws.Indexes.{MovesIndex, RiseStrictly, NoneIsZero}
 use Rattle.gd_base.specs.Judging.Legal.{IsNext, IsLegal, view_over}
 use Rattle.gd_base.specs.Judging.Machine.{Machine, Blocks}
 use Rattle.gd_base.specs.Judging.Rule.{rule}
-use Rattle.gd_base.specs.Judging.SoFar.{machine_so_far, is_drawn_so_far, rule_so_far}
 use Rattle.gd_base.specs.Payloads.Spelled.{Spelled}
 use Rattle.gd_base.specs.Judging.Product.{machine}
 use Rattle.gd_base.specs.Histories.View.{View}
@@ -125,7 +124,7 @@ module _ (setup : Setup) (M : Machine View) (m : Moves setup M) (blocks : Blocks
       let b : After setup v start 1 = start_by setup v start.number start.event start.draw start.reply is_start taken in
       omega (arith, a.0, b, m.effect v start, never_below v between (start ∷ []))
 
--- ================ the machine, and what is built of it
+-- ================ the machine under any setup
 
 is_true : (r : Reply) → is_taken r ≡ true → r ≡ Reply.Taken
 is_true Reply.Taken h = refl
@@ -139,21 +138,8 @@ machine_moves : (setup : Setup) (digest : List ℕ) (spelled : List ℕ → Spel
 machine_moves setup digest spelled =
     record { index = λ v. refl; effect = λ v e. refl; play = played setup digest spelled; start = λ v. start_taken setup v }
 
-played_so_far : (setup : Setup) (v : View) (event : Event) → is_drawn_so_far setup v event ≡ true → IsPlayTaken (machine_so_far setup) v event
-played_so_far setup v (Event.Play game bet) h = record { game = game; bet = bet; is = refl; taken = is_true (rule_so_far setup v (Event.Play game bet)) h }
-played_so_far setup v _ h = absurd (cc h)
-
-so_far_moves : (setup : Setup) → Moves setup (machine_so_far setup)
-so_far_moves setup = record { index = λ v. refl; effect = λ v e. refl; play = played_so_far setup; start = λ v. start_taken setup v }
-
 pub rise_strictly : RiseStrictly
 rise_strictly setup digest spelled blocks lap = rise setup (machine setup digest spelled) (machine_moves setup digest spelled) blocks lap
 
 pub none_is_zero : NoneIsZero
 none_is_zero setup digest spelled blocks lap = none_zero setup (machine setup digest spelled) (machine_moves setup digest spelled) blocks lap
-
-pub rise_so_far : RiseSoFar
-rise_so_far setup = (
-  (λ blocks lap. rise setup (machine_so_far setup) (so_far_moves setup) blocks lap),
-  (λ blocks lap. none_zero setup (machine_so_far setup) (so_far_moves setup) blocks lap),
-)

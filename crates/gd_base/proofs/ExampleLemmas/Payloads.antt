@@ -1,9 +1,6 @@
 -- Worked rows of payloads, by computation.
-use Rattle.std.specs.Prelude.{◌≡◌, true, refl}
+use Rattle.std.specs.Prelude.{refl}
 use Rattle.gd_base.specs.Examples.Payloads.{Lengths, ArePossible}
-use Rattle.gd_base.specs.Judging.SoFar.{no_digest}
-use Rattle.gd_base.specs.Payloads.ViewRules.{is_possible}
-use Rattle.gd_base.specs.Histories.ViewOf.{empty_view}
 
 pub lengths : Lengths
 lengths = record { head = refl; of_empty = refl; of_evening = refl }
@@ -19,6 +16,3 @@ possible = record {
   of_evening = refl;
   of_evening_under = refl;
 }
-
-pub possible-no_digest : is_possible (empty_view no_digest) ≡ true
-possible-no_digest = refl

@@ -4,7 +4,6 @@ use Rattle.std.proofs.Common.{ap, sym, ◌∙◌}
 use Rattle.gd_base.specs.declared.setup.Setup.{Setup}
 use Rattle.gd_base.specs.Histories.Entry.{Entry}
 use Rattle.gd_base.specs.Judging.Legal.{view_over}
-use Rattle.gd_base.specs.Judging.SoFar.{machine_so_far, without_recall}
 use Rattle.gd_base.specs.Payloads.Spelled.{Spelled}
 use Rattle.gd_base.specs.Judging.Product.{machine}
 use Rattle.gd_base.specs.Histories.View.{View}
@@ -26,11 +25,3 @@ view_over-is setup digest spelled v (e ∷ past) itself = view_over-some setup d
 
 pub empty-itself : (setup : Setup) (digest : List ℕ) → IsItself setup (empty_view digest)
 empty-itself setup digest = refl
-
--- until recall is built: the same without the four lists
-pub view_over-so_far : (setup : Setup) (v : View) (e : Entry) (past : List Entry)
-    → view_over (machine_so_far setup) v (e ∷ past) ≡ without_recall (view_after (from_view setup v) (e ∷ past))
-view_over-so_far setup v e [] = refl
-view_over-so_far setup v e (d ∷ past) =
-    ap (λ (w : View). without_recall (with_entry setup w e)) (view_over-so_far setup v d past)
-    ∙ ap without_recall (view_after-one_more (from_view setup v) e (d ∷ past))

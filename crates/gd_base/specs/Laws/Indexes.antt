@@ -8,7 +8,6 @@ use Rattle.gd_base.specs.Judging.Draws.{next_index}
 use Rattle.gd_base.specs.Histories.Entry.{Entry}
 use Rattle.gd_base.specs.Judging.Legal.{IsLegal}
 use Rattle.gd_base.specs.Judging.Machine.{Machine, Blocks}
-use Rattle.gd_base.specs.Judging.SoFar.{machine_so_far}
 use Rattle.gd_base.specs.Payloads.Spelled.{Spelled}
 use Rattle.gd_base.specs.Judging.Product.{machine}
 use Rattle.gd_base.specs.Histories.View.{View}
@@ -40,7 +39,3 @@ RiseStrictly = (setup : Setup) (digest : List ℕ) (spelled : List ℕ → Spell
 
 abbrev pub NoneIsZero : Type 0
 NoneIsZero = (setup : Setup) (digest : List ℕ) (spelled : List ℕ → Spelled View) → NoneIsZeroIn (machine setup digest spelled)
-
--- and in what is built of it
-abbrev pub RiseSoFar : Type 0
-RiseSoFar = (setup : Setup) → RiseIn (machine_so_far setup) × NoneIsZeroIn (machine_so_far setup)

@@ -10,7 +10,6 @@ pub product_reports : ProductReports
 unfolding digits item_meaning answered reopen answer opened resolved
 product_reports = record {
   one_bill_and_meters = refl;
-  one_bill_so_far = refl;
   empty_script = refl;
   repeats_and_steps = refl;
   bad_line = refl;

@@ -10,7 +10,7 @@ use Rattle.gd_top.specs.Code.Parts.{GivesText}
 use Rattle.gd_top.specs.Code.Standing.{Standing, Later, at}
 use Rattle.gd_top.specs.Run.Items.{item_meaning}
 use Rattle.gd_top.specs.Run.State.{State, Part, Phase, Stops, ends, prints}
-use Rattle.gd_top.specs.Script.Built.{built_line, is_comment}
+use Rattle.gd_top.specs.Script.Kinds.{line_alone, is_comment}
 use Rattle.gd_top.specs.declared.halt.Halt.{Halt}
 use Rattle.gd_top.proofs.RunLemmas.Cuts.{armed_length, calls_many}
 use Rattle.gd_top.proofs.RunLemmas.Equations.{skip_is}
@@ -107,24 +107,24 @@ module _ {V : Type 0} (was : Moment V) where
       }
 
   -- a comment
-  pub comment_out : (line : Option Item) (item : Item) → Some item ≡ line → item ≡ Item.Skip → CarriesOut (λ M B. built_line M B line) (Ok tt) was was
+  pub comment_out : (line : Option Item) (item : Item) → Some item ≡ line → item ≡ Item.Skip → CarriesOut (λ M B. line_alone M B line) (Ok tt) was was
   comment_out line item says is =
-      from_stand (λ M B. built_line M B line) (Ok tt) was was
+      from_stand (λ M B. line_alone M B line) (Ok tt) was was
       (λ s fits. (
         stand s was,
         (λ serves. fits),
-        goes_here was.machine (built_line was.machine was.blocks line) (stand s was) (outside was)
-            (λ x. ap (λ l. built_line was.machine was.blocks l (at (stand s was) x)) (sym (ap (λ (i : Item). Some i) (sym is) ∙ says)) ∙ skip_is was.machine was.blocks (at (stand s was) x)),
+        goes_here was.machine (line_alone was.machine was.blocks line) (stand s was) (outside was)
+            (λ x. ap (λ l. line_alone was.machine was.blocks l (at (stand s was) x)) (sym (ap (λ (i : Item). Some i) (sym is) ∙ says)) ∙ skip_is was.machine was.blocks (at (stand s was) x)),
       ))
 
   -- a line that is no item, or one that isn't built
-  pub no_item : (line : Option Item) → None ≡ line → CarriesOut (λ M B. built_line M B line) (Err Halt.ScriptFault) was was
+  pub no_item : (line : Option Item) → None ≡ line → CarriesOut (λ M B. line_alone M B line) (Err Halt.ScriptFault) was was
   no_item line says =
-      from_stand (λ M B. built_line M B line) (Err Halt.ScriptFault) was was
+      from_stand (λ M B. line_alone M B line) (Err Halt.ScriptFault) was was
       (λ s fits. (
         stand s was,
         (λ serves. fits),
-        stops_here was.machine (built_line was.machine was.blocks line) (stand s was) (outside was) (λ x. ap (λ l. built_line was.machine was.blocks l (at (stand s was) x)) (sym says)),
+        stops_here was.machine (line_alone was.machine was.blocks line) (stand s was) (outside was) (λ x. ap (λ l. line_alone was.machine was.blocks l (at (stand s was) x)) (sym says)),
       ))
 
 -- an item of which the test says so

@@ -1,5 +1,5 @@
 -- The lines `on`, `off` and `alter`, what a lock tells, and lines that have no place with the power as it is.
-use Rattle.std.proofs.Common.{◌≡◌, ◌∙◌, ap, sym, refl, ℕ, ◌+◌, nat_le, Bool, true, false, [], ◌∷◌, ◌++◌, length, if◌then◌else◌, codes}
+use Rattle.std.proofs.Common.{◌≡◌, ◌∙◌, ap, sym, refl, ℕ, ◌+◌, nat_le, Bool, true, false, [], ◌∷◌, ◌++◌, length, if◌then◌else◌, codes, Option}
 use Rattle.gd_base.specs.declared.device.Device.{Device}
 use Rattle.gd_base.specs.declared.event.Event.{Event}
 use Rattle.gd_base.specs.declared.step.What.{What}
@@ -7,11 +7,12 @@ use Rattle.gd_base.specs.Judging.Machine.{Machine, Blocks}
 use Rattle.gd_disk.specs.declared.disk.ArmedCut.{ArmedCut}
 use Rattle.gd_disk.specs.declared.side.Side.{Side}
 use Rattle.gd_script.specs.declared.item.Item.{Item}
+use Rattle.gd_script.specs.declared.item.OrderWord.{OrderWord}
 use Rattle.gd_store.specs.Masks.{Mask}
 use Rattle.gd_top.specs.Code.Standing.{Standing, Later, at}
 use Rattle.gd_top.specs.Run.Items.{item_meaning}
 use Rattle.gd_top.specs.Report.Lines.{altered_line, locked_line}
-use Rattle.gd_top.specs.Script.Built.{is_built, is_comment, is_cut, needs_memory}
+use Rattle.gd_top.specs.Script.Kinds.{is_comment, is_cut, needs_memory}
 use Rattle.gd_top.specs.Run.State.{Off, Stops, prints, ends}
 use Rattle.gd_top.specs.declared.memory.TheConstants.{MOST_POWER_ONS}
 use Rattle.gd_top.proofs.RunLemmas.Equations.{on_is, off_is, cut_is, alter_is, clear_is}
@@ -65,50 +66,50 @@ module _ {V : Type 0} (M : Machine V) (B : Blocks) (lap : ℕ) where
 
   -- ================ lines that have no place
 
-  -- of the items that are built, `on` and `alter`
-  pub no_place_on : (item : Item) → is_built item ≡ true → ((event : Event) → item ≡ Item.Event event → ⊥) → ((device : Device) → item ≡ Item.Again device → ⊥)
+  -- `on`, `alter` and `clear`
+  pub no_place_on : (item : Item) → ((event : Event) → item ≡ Item.Event event → ⊥) → ((kind : OrderWord) (order : Option ℕ) → item ≡ Item.OrderEvent kind order → ⊥) → ((device : Device) → item ≡ Item.Again device → ⊥)
       → ((number : ℕ) (event : Event) → item ≡ Item.As number event → ⊥) → (item ≡ Item.Off → ⊥) → ((what : What) → item ≡ Item.Show what → ⊥) → is_comment item ≡ false → is_cut item ≡ false
       → (v : V) (s : Standing V) (x : Later V) → item_meaning M B item (at (open_stand v lap s) x) ≡ ends Stops [] (at (open_stand v lap s) x)
-  no_place_on Item.On built event again under off show skip cut v s x = on_is M B (at (open_stand v lap s) x)
-  no_place_on (Item.Event e) built event again under off show skip cut v s x = absurd (event e refl)
-  no_place_on (Item.OrderEvent kind order) built event again under off show skip cut v s x = absurd (cc built)
-  no_place_on (Item.Again device) built event again under off show skip cut v s x = absurd (again device refl)
-  no_place_on (Item.As number e) built event again under off show skip cut v s x = absurd (under number e refl)
-  no_place_on Item.Off built event again under off show skip cut v s x = absurd (off refl)
-  no_place_on (Item.Cut unit count torn) built event again under off show skip cut v s x = absurd (cc cut)
-  no_place_on (Item.Alter side at mask) built event again under off show skip cut v s x = alter_is M B side at mask _
-  no_place_on Item.Clear built event again under off show skip cut v s x = clear_is M B _
-  no_place_on (Item.Show what) built event again under off show skip cut v s x = absurd (show what refl)
-  no_place_on Item.Skip built event again under off show skip cut v s x = absurd (cc skip)
+  no_place_on Item.On event order again under off show skip cut v s x = on_is M B (at (open_stand v lap s) x)
+  no_place_on (Item.Event e) event order again under off show skip cut v s x = absurd (event e refl)
+  no_place_on (Item.OrderEvent kind o) event order again under off show skip cut v s x = absurd (order kind o refl)
+  no_place_on (Item.Again device) event order again under off show skip cut v s x = absurd (again device refl)
+  no_place_on (Item.As number e) event order again under off show skip cut v s x = absurd (under number e refl)
+  no_place_on Item.Off event order again under off show skip cut v s x = absurd (off refl)
+  no_place_on (Item.Cut unit count torn) event order again under off show skip cut v s x = absurd (cc cut)
+  no_place_on (Item.Alter side at mask) event order again under off show skip cut v s x = alter_is M B side at mask _
+  no_place_on Item.Clear event order again under off show skip cut v s x = clear_is M B _
+  no_place_on (Item.Show what) event order again under off show skip cut v s x = absurd (show what refl)
+  no_place_on Item.Skip event order again under off show skip cut v s x = absurd (cc skip)
 
   -- all but `on`, `alter` and comments
-  pub no_place_off : (item : Item) → is_built item ≡ true → (item ≡ Item.On → ⊥) → ((side : Side) (at mask : ℕ) → item ≡ Item.Alter side at mask → ⊥) → is_comment item ≡ false → is_cut item ≡ false
+  pub no_place_off : (item : Item) → (item ≡ Item.On → ⊥) → ((side : Side) (at mask : ℕ) → item ≡ Item.Alter side at mask → ⊥) → is_comment item ≡ false → is_cut item ≡ false
       → (s : Standing V) (x : Later V) → item_meaning M B item (at (closed_stand lap s) x) ≡ ends Stops [] (at (closed_stand lap s) x)
   unfolding item_meaning
-  no_place_off (Item.Event event) built on alter skip cut s x = refl
-  no_place_off (Item.OrderEvent kind order) built on alter skip cut s x = refl
-  no_place_off (Item.Again device) built on alter skip cut s x = refl
-  no_place_off (Item.As number event) built on alter skip cut s x = refl
-  no_place_off Item.Off built on alter skip cut s x = refl
-  no_place_off Item.On built on alter skip cut s x = absurd (on refl)
-  no_place_off (Item.Cut unit count torn) built on alter skip cut s x = absurd (cc cut)
-  no_place_off (Item.Alter side at mask) built on alter skip cut s x = absurd (alter side at mask refl)
-  no_place_off Item.Clear built on alter skip cut s x = refl
-  no_place_off (Item.Show what) built on alter skip cut s x = refl
-  no_place_off Item.Skip built on alter skip cut s x = absurd (cc skip)
+  no_place_off (Item.Event event) on alter skip cut s x = refl
+  no_place_off (Item.OrderEvent kind order) on alter skip cut s x = refl
+  no_place_off (Item.Again device) on alter skip cut s x = refl
+  no_place_off (Item.As number event) on alter skip cut s x = refl
+  no_place_off Item.Off on alter skip cut s x = refl
+  no_place_off Item.On on alter skip cut s x = absurd (on refl)
+  no_place_off (Item.Cut unit count torn) on alter skip cut s x = absurd (cc cut)
+  no_place_off (Item.Alter side at mask) on alter skip cut s x = absurd (alter side at mask refl)
+  no_place_off Item.Clear on alter skip cut s x = refl
+  no_place_off (Item.Show what) on alter skip cut s x = refl
+  no_place_off Item.Skip on alter skip cut s x = absurd (cc skip)
 
   -- over a locked memory: `on`, `off` and `alter`
-  pub no_place_locked : (item : Item) → is_built item ≡ true → needs_memory item ≡ false → (item ≡ Item.Clear → ⊥) → is_comment item ≡ false → is_cut item ≡ false
+  pub no_place_locked : (item : Item) → needs_memory item ≡ false → (item ≡ Item.Clear → ⊥) → is_comment item ≡ false → is_cut item ≡ false
       → (s : Standing V) (x : Later V) → item_meaning M B item (at (locked_stand lap s) x) ≡ ends Stops [] (at (locked_stand lap s) x)
   unfolding item_meaning
-  no_place_locked (Item.Event event) built needs clear skip cut s x = absurd (cc needs)
-  no_place_locked (Item.OrderEvent kind order) built needs clear skip cut s x = absurd (cc needs)
-  no_place_locked (Item.Again device) built needs clear skip cut s x = absurd (cc needs)
-  no_place_locked (Item.As number event) built needs clear skip cut s x = absurd (cc needs)
-  no_place_locked Item.Off built needs clear skip cut s x = refl
-  no_place_locked Item.On built needs clear skip cut s x = refl
-  no_place_locked (Item.Cut unit count torn) built needs clear skip cut s x = absurd (cc cut)
-  no_place_locked (Item.Alter side at mask) built needs clear skip cut s x = refl
-  no_place_locked Item.Clear built needs clear skip cut s x = absurd (clear refl)
-  no_place_locked (Item.Show what) built needs clear skip cut s x = absurd (cc needs)
-  no_place_locked Item.Skip built needs clear skip cut s x = absurd (cc skip)
+  no_place_locked (Item.Event event) needs clear skip cut s x = absurd (cc needs)
+  no_place_locked (Item.OrderEvent kind order) needs clear skip cut s x = absurd (cc needs)
+  no_place_locked (Item.Again device) needs clear skip cut s x = absurd (cc needs)
+  no_place_locked (Item.As number event) needs clear skip cut s x = absurd (cc needs)
+  no_place_locked Item.Off needs clear skip cut s x = refl
+  no_place_locked Item.On needs clear skip cut s x = refl
+  no_place_locked (Item.Cut unit count torn) needs clear skip cut s x = absurd (cc cut)
+  no_place_locked (Item.Alter side at mask) needs clear skip cut s x = refl
+  no_place_locked Item.Clear needs clear skip cut s x = absurd (clear refl)
+  no_place_locked (Item.Show what) needs clear skip cut s x = absurd (cc needs)
+  no_place_locked Item.Skip needs clear skip cut s x = absurd (cc skip)

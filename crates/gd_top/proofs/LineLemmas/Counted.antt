@@ -11,7 +11,7 @@ use Rattle.gd_top.specs.Code.Parts.{Outside, Carries, CarriesBy}
 use Rattle.gd_top.specs.Code.Standing.{Standing, at, only}
 use Rattle.gd_top.specs.Run.Items.{item_meaning, line_meaning, one_more}
 use Rattle.gd_top.specs.Run.State.{State, Part, Outcome, Goes, Stops, Differs, Breaks, ends, goes_on, followed_by}
-use Rattle.gd_top.specs.Script.Built.{built_line}
+use Rattle.gd_top.specs.Script.Kinds.{line_alone}
 use Rattle.gd_top.specs.declared.halt.Halt.{Halt}
 use Rattle.gd_top.specs.declared.script.reader.TheConstants.{MOST_LINES}
 use Rattle.gd_top.proofs.RunLemmas.Parts.{differing_of, ended_of, pending_of, pending_then}
@@ -125,7 +125,7 @@ module _ {V : Type 0} (M : Machine V) where
 
 module _ {V : Type 0} (M : Machine V) (B : Blocks) where
   -- a line that is no item doesn't go on
-  no_item_stops : (a b : Standing V) (u v : Outside) → Carries M (built_line M B None) Goes a b u v → ⊥
+  no_item_stops : (a b : Standing V) (u v : Outside) → Carries M (line_alone M B None) Goes a b u v → ⊥
   no_item_stops a b u v h = never (ap (λ (t : Part V). t.outcome) (h.tells (only [] [] None) (ends_nowhere b.offers) tt))
     where
       never : Stops ≡ Goes → ⊥
@@ -133,7 +133,7 @@ module _ {V : Type 0} (M : Machine V) (B : Blocks) where
 
   -- a line, with its place among the lines
   pub counted_line : (r : Result (Unit {0}) Halt) (l : Option Item) (a b : Standing V) (u v : Outside) (disk : DiskState) → a.lines < MOST_LINES
-      → CarriesBy r M (built_line M B l) a b u v disk → CarriesBy r M (line_meaning M B l) a (after_line r b) u v disk
+      → CarriesBy r M (line_alone M B l) a b u v disk → CarriesBy r M (line_meaning M B l) a (after_line r b) u v disk
   counted_line (Ok done) None a b u v disk few h = absurd (no_item_stops a b u v h)
   counted_line (Err Halt.ScriptFault) None a b u v disk few h = h
   counted_line (Err Halt.ReadFault) None a b u v disk few h = absurd h

@@ -7,7 +7,7 @@ use Rattle.gd_top.specs.Code.Memory.{Moment, Fits, Leaves, CarriesOut, outside}
 use Rattle.gd_top.specs.Code.Parts.{CarriesBy}
 use Rattle.gd_top.specs.Code.Standing.{Standing}
 use Rattle.gd_top.specs.Run.Items.{line_meaning, lines_meaning}
-use Rattle.gd_top.specs.Script.Built.{built_line}
+use Rattle.gd_top.specs.Script.Kinds.{line_alone}
 use Rattle.gd_top.specs.Script.LineTaken.{TakesEnd, TakesLine}
 use Rattle.gd_top.specs.Script.Lines.{HasNoEnd, line_of}
 use Rattle.gd_top.specs.declared.halt.Halt.{Halt}
@@ -40,15 +40,15 @@ module _ {V : Type 0} where
 
   -- a line over the machine and the blocks of before, with its place
   step : (was mid next : Moment V) (r : Result (Unit {0}) Halt) (line bytes : List ℕ) (t u : Standing V) → Leaves (Ok tt) was mid → t.lines < MOST_LINES → bytes ≡ line
-      → CarriesBy r mid.machine (built_line mid.machine mid.blocks (line_of bytes)) t u (outside mid) (outside next) next.disk
+      → CarriesBy r mid.machine (line_alone mid.machine mid.blocks (line_of bytes)) t u (outside mid) (outside next) next.disk
       → CarriesBy r was.machine (line_meaning was.machine was.blocks (line_of line)) t (after_line r u) (outside mid) (outside next) next.disk
   step was mid next r line bytes t u left few is q =
       counted_line was.machine was.blocks r (line_of line) t u (outside mid) (outside next) next.disk few
-      (alike_by was.machine mid.machine was.blocks mid.blocks (λ M B. built_line M B (line_of line)) r t u (outside mid) (outside next) next.disk left.machine left.blocks
-      (subst (λ (bs : List ℕ). CarriesBy r mid.machine (built_line mid.machine mid.blocks (line_of bs)) t u (outside mid) (outside next) next.disk) is q))
+      (alike_by was.machine mid.machine was.blocks mid.blocks (λ M B. line_alone M B (line_of line)) r t u (outside mid) (outside next) next.disk left.machine left.blocks
+      (subst (λ (bs : List ℕ). CarriesBy r mid.machine (line_alone mid.machine mid.blocks (line_of bs)) t u (outside mid) (outside next) next.disk) is q))
 
   pub line_halts : (was mid next : Moment V) (r : Result (Unit {0}) Halt) (left ahead later rest : Option (List ℕ)) (line bytes : List ℕ) → SoFar was mid left ahead → Leaves (Ok tt) was mid
-      → mid.counts.lines < MOST_LINES → bytes ≡ line → HasNoEnd line → Consumes ahead later (line ++ 10 ∷ []) → is_err r ≡ true → CarriesOut (λ M B. built_line M B (line_of bytes)) r mid next
+      → mid.counts.lines < MOST_LINES → bytes ≡ line → HasNoEnd line → Consumes ahead later (line ++ 10 ∷ []) → is_err r ≡ true → CarriesOut (λ M B. line_alone M B (line_of bytes)) r mid next
       → LinesDone r was next left rest
   line_halts was mid next r left ahead later rest line bytes so_far leaves few is no_end taken err out s fits =
       let k = so_far s fits in
@@ -61,12 +61,12 @@ module _ {V : Type 0} where
       (u, q.1, line_ends was.machine was.blocks s t (outside was) (outside mid) left ahead later k.2 r u (outside next) next.disk rest line err no_end taken by_u)
 
   pub line_goes : (was mid next : Moment V) (r : Result (Unit {0}) Halt) (left ahead later : Option (List ℕ)) (line bytes : List ℕ) → SoFar was mid left ahead → Leaves (Ok tt) was mid
-      → mid.counts.lines < MOST_LINES → bytes ≡ line → HasNoEnd line → Consumes ahead later (line ++ 10 ∷ []) → r ≡ Ok tt → CarriesOut (λ M B. built_line M B (line_of bytes)) r mid next
+      → mid.counts.lines < MOST_LINES → bytes ≡ line → HasNoEnd line → Consumes ahead later (line ++ 10 ∷ []) → r ≡ Ok tt → CarriesOut (λ M B. line_alone M B (line_of bytes)) r mid next
       → SoFar was (record next { counts = record next.counts { lines = next.counts.lines + 1 } }) left later
   line_goes was mid next r left ahead later line bytes so_far leaves few is no_end taken went out s fits =
       let k = so_far s fits in
       let t = k.0 in
-      let q = subst (λ (z : Result (Unit {0}) Halt). CarriesOut (λ M B. built_line M B (line_of bytes)) z mid next) went out t k.1 in
+      let q = subst (λ (z : Result (Unit {0}) Halt). CarriesOut (λ M B. line_alone M B (line_of bytes)) z mid next) went out t k.1 in
       let u = q.0 in
       let f = q.1 tt in
       let lines : t.lines < MOST_LINES = subst (λ (n : ℕ). n < MOST_LINES) (sym k.1.lines) few in

@@ -1,5 +1,5 @@
 -- One equation for each case of the definitions that stay shut.
-use Rattle.std.proofs.Common.{◌≡◌, ℕ, ◌+◌, Bool, if◌then◌else◌, List, [], ◌∷◌, ◌++◌, refl, ap}
+use Rattle.std.proofs.Common.{◌≡◌, ℕ, ◌+◌, Bool, if◌then◌else◌, List, [], ◌∷◌, ◌++◌, Option, refl, ap}
 use Rattle.std.specs.Prelude.{codes}
 use Rattle.gd_base.specs.declared.device.Device.{Device}
 use Rattle.gd_base.specs.declared.event.Event.{Event}
@@ -12,9 +12,11 @@ use Rattle.gd_base.specs.Histories.Entry.{device_of}
 use Rattle.gd_base.specs.Judging.Machine.{Machine, Blocks}
 use Rattle.gd_base.specs.Payloads.LoadedView.{opens}
 use Rattle.gd_disk.specs.declared.disk.CutUnit.{CutUnit}
+use Rattle.gd_script.specs.Items.{order_event}
 use Rattle.gd_script.specs.declared.item.Item.{Item}
+use Rattle.gd_script.specs.declared.item.OrderWord.{OrderWord}
 use Rattle.gd_disk.specs.declared.side.Side.{Side}
-use Rattle.gd_top.specs.Run.Items.{item_meaning, event_meaning, next_numbered, again_meaning, with_power, in_trial, below_limit, off_meaning, on_meaning, alter_meaning, clear_meaning}
+use Rattle.gd_top.specs.Run.Items.{item_meaning, event_meaning, next_numbered, order_of, again_meaning, with_power, in_trial, below_limit, off_meaning, on_meaning, alter_meaning, clear_meaning}
 use Rattle.gd_top.specs.Report.Lines.{answer_line, step_line, full_line, power_line}
 use Rattle.gd_top.specs.Run.Openings.{Reopening, Wanted, answered, answered_by, record_entry, reopen, found_open, powered, opened, opened_full, started, resolved, unexplained}
 use Rattle.gd_top.specs.Run.Offers.{offer, syncs_of_event}
@@ -28,9 +30,14 @@ pub skip_is : {V : Type 0} (M : Machine V) (B : Blocks) (s : State V) → item_m
 unfolding item_meaning
 skip_is M B s = refl
 
-pub event_is : {V : Type 0} (M : Machine V) (B : Blocks) (event : Event) (s : State V) → item_meaning M B (Item.Event event) s ≡ event_meaning M B (next_numbered M event s) s
+pub event_is : {V : Type 0} (M : Machine V) (B : Blocks) (event : Event) (s : State V) → item_meaning M B (Item.Event event) s ≡ event_meaning M B (next_numbered M event s.view) s
 unfolding item_meaning
 event_is M B event s = refl
+
+pub order_is : {V : Type 0} (M : Machine V) (B : Blocks) (kind : OrderWord) (order : Option ℕ) (s : State V)
+    → item_meaning M B (Item.OrderEvent kind order) s ≡ event_meaning M B (next_numbered M (order_event kind (order_of M order s.view)) s.view) s
+unfolding item_meaning
+order_is M B kind order s = refl
 
 pub again_is : {V : Type 0} (M : Machine V) (B : Blocks) (device : Device) (s : State V) → item_meaning M B (Item.Again device) s ≡ with_power s.phase s (again_meaning M device s)
 unfolding item_meaning

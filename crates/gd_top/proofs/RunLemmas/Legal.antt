@@ -230,8 +230,8 @@ again_ok {V} M B d s h = choose (λ (t : Part V). Ok M B t.state) (M.last s.view
 item_ok : {V : Type 0} (M : Machine V) (B : Blocks) (i : Item) (s : State V) → Ok M B s → Ok M B (item_meaning M B i s).state
 unfolding item_meaning
 item_ok M B Item.Skip s h = h
-item_ok M B (Item.Event event) s h = event_ok M B (next_numbered M event s) s h
-item_ok M B (Item.OrderEvent kind order) s h = event_ok M B (next_numbered M (order_event kind (order_of M order s)) s) s h
+item_ok M B (Item.Event event) s h = event_ok M B (next_numbered M event s.view) s h
+item_ok M B (Item.OrderEvent kind order) s h = event_ok M B (next_numbered M (order_event kind (order_of M order s.view)) s.view) s h
 item_ok M B (Item.Again d) s h = power_ok M B s.phase s (again_meaning M d s) h (again_ok M B d s h)
 item_ok M B (Item.As number event) s h = event_ok M B (record { number = number; event = event }) s h
 item_ok M B Item.Off s h = trial_ok M B s (off_meaning s.phase s) h (off_ok M B s.phase s h)

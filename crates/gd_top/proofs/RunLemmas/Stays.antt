@@ -223,8 +223,8 @@ module _ {V : Type 0} (M : Machine V) where
   item_stays : (B : Blocks) (i : Item) (s : State V) → Stays s (item_meaning M B i s).state
   unfolding item_meaning
   item_stays B Item.Skip s = itself s
-  item_stays B (Item.Event event) s = event_stays B (next_numbered M event s) s
-  item_stays B (Item.OrderEvent kind order) s = event_stays B (next_numbered M (order_event kind (order_of M order s)) s) s
+  item_stays B (Item.Event event) s = event_stays B (next_numbered M event s.view) s
+  item_stays B (Item.OrderEvent kind order) s = event_stays B (next_numbered M (order_event kind (order_of M order s.view)) s.view) s
   item_stays B (Item.Again d) s = power_stays s.phase s (again_meaning M d s) (again_stays d s)
   item_stays B (Item.As number event) s = event_stays B (record { number = number; event = event }) s
   item_stays B Item.Off s = trial_stays s (off_meaning s.phase s) (off_stays s.phase s)

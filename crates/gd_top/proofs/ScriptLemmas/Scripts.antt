@@ -5,7 +5,6 @@ use Rattle.gd_script.specs.declared.item.Item.{Item}
 use Rattle.gd_script.specs.Reading.{item_of, read_of}
 use Rattle.gd_script.specs.declared.item.LineFault.{LineFault}
 use Rattle.gd_top.specs.Script.Lines.{Pieces, pieces_of, HasNoEnd, line_of, read_item, rest_lines, lines_of_pieces, script_of, whole_lines}
-use Rattle.gd_top.specs.Script.Built.{built_of}
 use Rattle.gd_script.specs.declared.limits.TheConstants.{LINE_LEN}
 use Rattle.gd_top.proofs.ScriptLemmas.Pieces.{pieces_append, pieces_line, pieces_rest, pieces_long, put_all}
 
@@ -42,7 +41,7 @@ too_long : (front rest : List ℕ) → LINE_LEN < length front → line_of (fron
 unfolding read_of
 too_long front rest h =
     let long : nat_le (length (front ++ rest)) LINE_LEN ≡ false = grind (arith, nat_tests, length-append front rest) in
-    ap (λ (b : Bool). built_of (read_item (if b then ok_or (item_of (front ++ rest)) LineFault.NotALine else Err LineFault.TooLong))) long
+    ap (λ (b : Bool). read_item (if b then ok_or (item_of (front ++ rest)) LineFault.NotALine else Err LineFault.TooLong)) long
 
 long_lines : (front : List ℕ) (lines : List (List ℕ)) (rest : List ℕ) → LINE_LEN < length front → (tail : List (Option Item)) × (lines_of_pieces (put_all front lines rest) ≡ None ∷ tail)
 long_lines [] lines rest h = absurd (omega arith)

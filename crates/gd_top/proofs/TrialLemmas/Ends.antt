@@ -1,9 +1,10 @@
 -- Why a status came, and what a command did by its status.
-use Rattle.std.proofs.Common.{◌≡◌, ◌⊎◌, inl, inr, ◌∙◌, sym, refl, ◌≤◌, ℕ, true, List, arith, Result, Ok, Err}
+use Rattle.std.proofs.Common.{◌≡◌, ◌⊎◌, inl, inr, ◌∙◌, ap, sym, refl, ◌≤◌, ℕ, true, List, arith, Result, Ok, Err}
 use Rattle.gd_base.specs.Outside.Causes.{Rose}
 use Rattle.gd_base.specs.Judging.Machine.{Machine, Blocks}
-use Rattle.gd_top.specs.Claims.Trial.{Outer, CabinetDone, HasCauses, TrialDone, status_after}
-use Rattle.gd_top.specs.Run.State.{Phase, On, Off, Locked}
+use Rattle.gd_top.specs.Claims.Trial.{Outer, CabinetDone, CarriesAsTold, HasCauses, IsEnd, TrialDone, WroteReport, status_after}
+use Rattle.gd_top.specs.Run.Life.{status_of}
+use Rattle.gd_top.specs.Run.State.{Part, Phase, On, Off, Locked}
 use Rattle.gd_top.specs.declared.halt.Halt.{Halt}
 use Rattle.gd_top.specs.declared.status.Status.{Status}
 
@@ -49,3 +50,18 @@ module _ {V : Type 0} (M : Machine V) (B : Blocks) (falls : List ℕ) (was now :
   carried_done Status.DiskFault h = (refl, h)
   carried_done Status.WriteFault h = inr h
   carried_done _ h = absurd h
+
+  -- where no count rose, it ends as the definition says
+  ended_so : (status : Status) → IsEnd status → WroteReport M B status falls was now → CarriesAsTold M B status falls was now
+  ended_so status end h = (end, h.script, h.of_source, sym h.ended ∙ ap (λ (t : Part V). status_of t.outcome t.state) h.is_run)
+
+  pub carried_as_told : (status : Status) → TrialDone M B status falls was now → HasCauses status was now → (Rose was.read_faults now.read_faults → ⊥)
+      → (Rose was.write_faults now.write_faults → ⊥) → (Rose was.disk.faults now.disk.faults → ⊥) → CarriesAsTold M B status falls was now
+  carried_as_told Status.Done h k read write disk = ended_so Status.Done tt h.0
+  carried_as_told Status.ScriptFault h k read write disk = ended_so Status.ScriptFault tt h
+  carried_as_told Status.Locked h k read write disk = ended_so Status.Locked tt h.0
+  carried_as_told Status.SetupDiffers h k read write disk = ended_so Status.SetupDiffers tt h
+  carried_as_told Status.ReadFault h k read write disk = absurd (read (k.read refl))
+  carried_as_told Status.DiskFault h k read write disk = absurd (disk (k.disk refl))
+  carried_as_told Status.WriteFault h k read write disk = absurd (write (k.write refl))
+  carried_as_told _ h k read write disk = absurd h

@@ -215,6 +215,12 @@ IsBuilt Status.OutOfMemory = Unit {0}
 IsBuilt Status.SetupDiffers = Unit {0}
 IsBuilt _ = ⊥
 
+-- a call over a core that is there ends with one of these
+abbrev pub IsCarried : Status → Type 0
+IsCarried Status.Usage = ⊥
+IsCarried Status.OutOfMemory = ⊥
+IsCarried status = IsBuilt status
+
 -- a trial that no fault of the outside ended ends with one of these
 abbrev pub IsEnd : Status → Type 0
 IsEnd Status.Done = Unit {0}
@@ -227,7 +233,11 @@ IsEnd _ = ⊥
 abbrev pub status_meant : {V : Type 0} → Machine V → Blocks → (script falls : List ℕ) → DiskState → Status
 status_meant M B script falls disk = let run = trial_meaning M B (script_of script) falls (starts_in M disk.found) None in status_of run.outcome run.state
 
--- Where no fault of the outside came: want of memory, or the status that is told, one of these.
+-- Where no fault of the outside came: the status that is told, one of these.
+abbrev pub CarriesAsTold : {V : Type 0} → Machine V → Blocks → Status → List ℕ → (was now : Outer) → Type 0
+CarriesAsTold M B status falls was now =
+    IsEnd status × (script : List ℕ) × IfSome was.left (λ bytes. bytes ≡ script) × (status ≡ status_meant M B script falls now.disk)
+
+-- or want of memory
 abbrev pub EndsAsTold : {V : Type 0} → Machine V → Blocks → Status → List ℕ → (was now : Outer) → Type 0
-EndsAsTold M B status falls was now = (status ≡ Status.OutOfMemory)
-    ⊎ (IsEnd status × (script : List ℕ) × IfSome was.left (λ bytes. bytes ≡ script) × (status ≡ status_meant M B script falls now.disk))
+EndsAsTold M B status falls was now = (status ≡ Status.OutOfMemory) ⊎ CarriesAsTold M B status falls was now

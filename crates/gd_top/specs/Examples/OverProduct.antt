@@ -10,7 +10,6 @@ use Rattle.gd_base.specs.Games.Chance.{word_for}
 use Rattle.gd_base.specs.Judging.Legal.{after_events, view_over}
 use Rattle.gd_base.specs.Judging.Machine.{Machine, Blocks}
 use Rattle.gd_base.specs.Payloads.Spelled.{Shows, Unreadable}
-use Rattle.gd_base.specs.Judging.SoFar.{machine_so_far, no_digest}
 use Rattle.gd_base.specs.Judging.Product.{machine}
 use Rattle.gd_base.specs.Histories.View.{View}
 use Rattle.gd_disk.specs.declared.disk.CutUnit.{CutUnit}
@@ -23,7 +22,7 @@ use Rattle.gd_top.specs.Run.State.{Start}
 
 -- the whole machine, with a digest of zeros
 abbrev pub M : Machine View
-M = machine built_in_setup no_digest (λ payload. Unreadable)
+M = machine built_in_setup (replicate 32 0) (λ payload. Unreadable)
 
 -- blocks of zeros, and block 1 of other words
 abbrev pub zeros : Blocks
@@ -102,11 +101,9 @@ lost = record { found = record { a = shut; b = CopyState.Bad (Why.BadPage 15) };
 abbrev pub both_altered_lines : List (Option Item)
 both_altered_lines = Some Item.Off ∷ Some (Item.Alter Side.A 0 255) ∷ Some (Item.Alter Side.B 9000 1) ∷ Some Item.On ∷ line (Event.Bill 500) ∷ []
 
--- a bill and its meters over both machines, an empty script, repeats and numbers out of step, and script faults
+-- a bill and its meters, an empty script, repeats and numbers out of step, and script faults
 pub record ProductReports : Type 0 where
   pub one_bill_and_meters : report zeros (made ∷ []) (line (Event.Bill 500) ∷ Some (Item.Show What.Meters) ∷ [])
-      ≡ begins ++ codes "ack bill 1 taken at 2\n" ++ meters_of_a_bill ++ codes "end at 2 credit 500\n"
-  pub one_bill_so_far : report_of (machine_so_far built_in_setup) (trial_meaning (machine_so_far built_in_setup) zeros (line (Event.Bill 500) ∷ Some (Item.Show What.Meters) ∷ []) [] (made ∷ []) None)
       ≡ begins ++ codes "ack bill 1 taken at 2\n" ++ meters_of_a_bill ++ codes "end at 2 credit 500\n"
   pub empty_script : report zeros (made ∷ []) [] ≡ begins ++ codes "end at 1 credit 0\n"
   pub repeats_and_steps : report zeros (made ∷ [])

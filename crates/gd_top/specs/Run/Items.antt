@@ -37,17 +37,17 @@ with_power Locked s t = prints locked_line s
 -- ================ items
 
 -- the next number of the event's device
-abbrev pub next_numbered : {V : Type 0} → Machine V → Event → State V → Numbered
-next_numbered M event s = record { number = M.last s.view (device_of event) + 1; event = event }
+abbrev pub next_numbered : {V : Type 0} → Machine V → Event → V → Numbered
+next_numbered M event v = record { number = M.last v (device_of event) + 1; event = event }
 
 -- an event under its number
 abbrev pub event_meaning : {V : Type 0} → Machine V → Blocks → Numbered → State V → Part V
 event_meaning M blocks e s = with_power s.phase s (answered M blocks (power_on M blocks) e s)
 
 -- the number of an order, where None is the word `open`
-abbrev pub order_of : {V : Type 0} → Machine V → Option ℕ → State V → ℕ
-order_of M None s = M.open_order s.view
-order_of M (Some n) s = n
+abbrev pub order_of : {V : Type 0} → Machine V → Option ℕ → V → ℕ
+order_of M None v = M.open_order v
+order_of M (Some n) v = n
 
 -- the device repeats its last number, and gets the kept reply
 abbrev pub again_meaning : {V : Type 0} → Machine V → Device → State V → Part V
@@ -82,8 +82,8 @@ clear_meaning M blocks Off s = ends Stops [] s
 -- what an item prints and leaves
 unfoldable pub item_meaning : {V : Type 0} → Machine V → Blocks → Item → State V → Part V
 item_meaning M blocks Item.Skip s = prints [] s
-item_meaning M blocks (Item.Event event) s = event_meaning M blocks (next_numbered M event s) s
-item_meaning M blocks (Item.OrderEvent kind order) s = event_meaning M blocks (next_numbered M (order_event kind (order_of M order s)) s) s
+item_meaning M blocks (Item.Event event) s = event_meaning M blocks (next_numbered M event s.view) s
+item_meaning M blocks (Item.OrderEvent kind order) s = event_meaning M blocks (next_numbered M (order_event kind (order_of M order s.view)) s.view) s
 item_meaning M blocks (Item.Again device) s = with_power s.phase s (again_meaning M device s)
 item_meaning M blocks (Item.As number event) s = event_meaning M blocks (record { number = number; event = event }) s
 item_meaning M blocks Item.Off s = in_trial s (off_meaning s.phase s)

@@ -6,7 +6,6 @@ use Rattle.gd_script.specs.declared.item.Item.{Item}
 use Rattle.gd_script.specs.declared.limits.TheConstants.{LINE_LEN}
 use Rattle.gd_script.specs.Reading.{read_of}
 use Rattle.gd_script.specs.declared.item.LineFault.{LineFault}
-use Rattle.gd_top.specs.Script.Built.{built_of}
 use Rattle.gd_top.specs.declared.script.reader.TheConstants.{MOST_LINES}
 
 -- ================ bytes as lines
@@ -43,9 +42,9 @@ abbrev pub read_item : Result Item LineFault → Option Item
 read_item (Ok item) = Some item
 read_item (Err fault) = None
 
--- None is a line that is too long, no item, or one that isn't built
+-- None is a line that is too long, or no item
 abbrev pub line_of : List ℕ → Option Item
-line_of line = built_of (read_item (read_of line))
+line_of line = read_item (read_of line)
 
 -- a last line without LF is no item, whatever it holds
 abbrev pub rest_lines : List ℕ → List (Option Item)

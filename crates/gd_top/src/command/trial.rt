@@ -1,20 +1,19 @@
 //! A trial: a memory is made on the laboratory, a script is carried out on it, and a report of that is written.
 
 ghost use Rattle.std.specs.Prelude.{◌≡◌, ◌≤◌, ◌⊎◌, true, false, [], Err};
-ghost use Rattle.gd_base.specs.Judging.SoFar.{machine_so_far};
 ghost use Rattle.gd_base.specs.Outside.Causes.{Rose};
 ghost use Rattle.gd_base.specs.Laws.TellsViews.{TellsViews};
 ghost use Rattle.gd_disk.specs.Disk.{IsSynced};
+ghost use Rattle.gd_image.specs.Words.{platform_setup, platform_view};
+ghost use Rattle.gd_machine.specs.Meaning.{the_machine};
 ghost use Rattle.gd_top.specs.Claims.MemoryLeft.{IsAtRest, IsSettled};
 ghost use Rattle.gd_top.specs.Claims.Trial.{outer, status_after, last_text, GivesLast, HasCauses, TrialDone};
 ghost use Rattle.gd_top.specs.Code.LinesDone.{RunDone};
 ghost use Rattle.gd_top.specs.Code.Memory.{memory_core, memory_disk, memory_draws, memory_phase, memory_stopped, moment, moment_closed, IsFresh, Leaves};
-ghost use Rattle.gd_top.specs.FirstCore.View.{core_view};
 ghost use Rattle.gd_top.specs.Run.Life.{end_line, end_status};
 ghost use Rattle.gd_top.specs.Run.State.{Off, Locked};
 
-use crate::ended::Falls;
-use crate::first_core::FirstCore;
+use crate::ended::Carried;
 use crate::halt::Halt;
 use crate::item::opening::reopen;
 use crate::memory::Memory;
@@ -27,31 +26,20 @@ use crate::status::Status;
 use gd_base::{Core, Draws, Sink, Source, Text};
 use gd_cabinet::Parts;
 use gd_disk::{DISK_LEN, LabDisk};
-
-/// The digest of the setup, until setups are read.
-const NO_DIGEST: [u8; 32] = [0; 32];
-
-/// How a trial ended, and what was handed in.
-#[derive(Drop)]
-pub(crate) struct TrialEnded<L, W> {
-    pub(crate) status: Status,
-    pub(crate) falls: Falls,
-    pub(crate) lab: L,
-    pub(crate) draws: W,
-}
+use gd_image::Platform;
 
 /// Makes an empty memory on the laboratory, turns it off and on, opens it, and carries out the script of the input.
 pub(crate) fn run_trial<S: Source, K: Sink, L: LabDisk, W: Draws>(
-    parts: Parts<FirstCore, L, W>,
+    parts: Parts<Platform, L, W>,
     input: &mut S,
     output: &mut K,
-) -> TrialEnded<L, W>
-    requires empty { core_view parts.core ≡ (machine_so_far parts.core.setup).empty }
+) -> Carried<L, W>
+    requires empty { platform_view parts.core ≡ (the_machine (platform_setup parts.core)).empty }
     requires size { (L.state parts.disk).size ≡ DISK_LEN }
     requires is_on { (L.state parts.disk).is_on ≡ true }
     requires armed { (L.state parts.disk).armed ≡ [] }
     requires found { (L.state parts.disk).found ≡ [] }
-    ensures done { TrialDone (machine_so_far parts.core.setup) (W.block_of parts.draws) result.status
+    ensures done { TrialDone (the_machine (platform_setup parts.core)) (W.block_of parts.draws) result.status
         result.falls.items
         (outer S.left S.faults K.taken K.faults L.state input.old output.old parts.disk)
         (outer S.left S.faults K.taken K.faults L.state input.new output.new result.lab) }
@@ -60,11 +48,11 @@ pub(crate) fn run_trial<S: Source, K: Sink, L: LabDisk, W: Draws>(
         (outer S.left S.faults K.taken K.faults L.state input.new output.new result.lab) }
 {
     let mut text = Text::new();
-    let mut counts = Counts::new(NO_DIGEST);
+    let mut counts = Counts::new(*parts.core.digest());
     let (memory, ended) = carry_script(parts, &mut counts, input, output, &mut text);
     let status = end_report(&memory, counts.lines, ended, output, &mut text);
     let parts = close(memory);
-    TrialEnded {
+    Carried {
         status,
         falls: counts.falls,
         lab: parts.disk,
@@ -114,7 +102,7 @@ fn carry_script<C: Core, S: Source, K: Sink, L: LabDisk, W: Draws>(
 
 /// Gives the last line of the report, and answers the status.
 fn end_report<K: Sink, L: LabDisk, W: Draws>(
-    memory: &Memory<FirstCore, L, W>,
+    memory: &Memory<Platform, L, W>,
     lines: u64,
     ended: Result<(), Halt>,
     output: &mut K,
@@ -123,8 +111,8 @@ fn end_report<K: Sink, L: LabDisk, W: Draws>(
     requires { lines ≤ MOST_LINES }
     ensures last { GivesLast (status_after ended (memory_phase memory.now)) result (K.taken output.old)
         (K.taken output.new)
-        (last_text (machine_so_far (memory_core memory.now).setup) ended (memory_phase memory.now)
-        (core_view (memory_core memory.now)) lines) }
+        (last_text (the_machine (platform_setup (memory_core memory.now))) ended (memory_phase memory.now)
+        (platform_view (memory_core memory.now)) lines) }
     ensures later { K.faults output.old ≤ K.faults output.new }
     ensures cause { (result ≡ status_after ended (memory_phase memory.now))
         ⊎ ((result ≡ Status.WriteFault) × Rose (K.faults output.old) (K.faults output.new)) }
@@ -140,14 +128,14 @@ fn end_report<K: Sink, L: LabDisk, W: Draws>(
 /// setup differs.
 fn write_last<L: LabDisk, W: Draws>(
     text: &mut Text,
-    memory: &Memory<FirstCore, L, W>,
+    memory: &Memory<Platform, L, W>,
     lines: u64,
     ended: Result<(), Halt>,
 )
     requires { lines ≤ MOST_LINES }
     ensures { text.new.bytes ≡ last_text
-        (machine_so_far (memory_core memory.now).setup) ended (memory_phase memory.now)
-        (core_view (memory_core memory.now)) lines }
+        (the_machine (platform_setup (memory_core memory.now))) ended (memory_phase memory.now)
+        (platform_view (memory_core memory.now)) lines }
 {
     text.clear();
     match ended {
@@ -187,16 +175,16 @@ fn end_status<C: Core, L: LabDisk, W: Draws>(memory: &Memory<C, L, W>) -> Status
 }
 
 /// Appends the last line of a report whose input was read to its end.
-fn push_end<L: LabDisk, W: Draws>(text: &mut Text, memory: &Memory<FirstCore, L, W>)
+fn push_end<L: LabDisk, W: Draws>(text: &mut Text, memory: &Memory<Platform, L, W>)
     requires { text.old.bytes ≡ [] }
     ensures { text.new.bytes ≡ end_line
-        (machine_so_far (memory_core memory.now).setup) (memory_phase memory.now)
-        (core_view (memory_core memory.now)) }
+        (the_machine (platform_setup (memory_core memory.now))) (memory_phase memory.now)
+        (platform_view (memory_core memory.now)) }
 {
     match memory {
         Memory::On(cabinet) => {
-            let books = &cabinet.core().books;
-            push_end_line(text, books.count, books.balance);
+            let core = cabinet.core();
+            push_end_line(text, core.count(), core.credit());
         }
         Memory::Off(_) => text.push_str("end off\n"),
         Memory::Locked(_) => text.push_str("end locked\n"),

@@ -5,11 +5,11 @@ ghost use Rattle.gd_base.specs.declared.step.Stepped.{Stepped as SteppedData};
 ghost use Rattle.gd_base.specs.Histories.Entry.{device_of};
 ghost use Rattle.gd_base.specs.Judging.Answer.{is_new};
 ghost use Rattle.gd_cabinet.specs.Answers.{cabinet_answer};
+ghost use Rattle.gd_script.specs.Items.{order_event};
 ghost use Rattle.gd_script.specs.declared.item.Item.{Item};
 ghost use Rattle.gd_top.specs.Code.Memory.{moment, moment_on, Does, Sits};
 ghost use Rattle.gd_top.specs.Report.AnswerText.{answer_text};
-ghost use Rattle.gd_top.specs.Run.Items.{event_meaning, item_meaning};
-ghost use Rattle.gd_top.specs.Script.Built.{next_of};
+ghost use Rattle.gd_top.specs.Run.Items.{event_meaning, item_meaning, next_numbered, order_of};
 ghost use Rattle.gd_top.specs.declared.memory.counts.Counts.{Counts as CountsData};
 
 use crate::halt::Halt;
@@ -24,6 +24,7 @@ use crate::script::reader::MOST_LINES;
 use gd_base::{Core, Device, Door, Draws, Event, MOST_ENTRIES, Numbered, Sink, Text, What};
 use gd_cabinet::{Answer, Cabinet};
 use gd_disk::LabDisk;
+use gd_script::OrderWord;
 
 /// Offers an event under its number, as often as a cut comes in that, and prints its answer. After a cut the memory is opened
 /// again; where it is locked then, the event is given up. A write fault comes after the event was committed, or in the lines of
@@ -104,7 +105,7 @@ fn write_answer(text: &mut Text, e: &Numbered, answer: &Answer)
 
 /// The event under its device's next number.
 pub(crate) fn next_numbered<C: Core>(core: &C, event: Event) -> Numbered
-    ensures { result ≡ next_of (C.meaning core.now) (C.view core.now) event }
+    ensures { result ≡ next_numbered (C.meaning core.now) event (C.view core.now) }
 {
     let last = core.last(event.device());
     let count = core.count();
@@ -112,6 +113,23 @@ pub(crate) fn next_numbered<C: Core>(core: &C, event: Event) -> Numbered
     Numbered {
         number: last + 1,
         event,
+    }
+}
+
+/// The event of an order, by the order's number, or of the open order where it is None.
+pub(crate) fn order_event<C: Core>(core: &C, kind: OrderWord, order: Option<u64>) -> Event
+    ensures event { result ≡ order_event kind (order_of (C.meaning core.now) order (C.view core.now)) }
+    ensures not_start { result ≢ Event.Start }
+{
+    let order = match order {
+        Some(order) => order,
+        None => core.open_order(),
+    };
+    match kind {
+        OrderWord::Printed => Event::Printed { order },
+        OrderWord::PrintFail => Event::PrintFail { order },
+        OrderWord::CoinPaid => Event::CoinPaid { order },
+        OrderWord::HopperEmpty => Event::HopperEmpty { order },
     }
 }
 

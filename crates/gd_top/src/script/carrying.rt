@@ -6,7 +6,7 @@ ghost use Rattle.gd_base.specs.Outside.Causes.{Rose};
 ghost use Rattle.gd_script.specs.Grammar.{InGrammar};
 ghost use Rattle.gd_top.specs.Code.LinesDone.{LinesDone};
 ghost use Rattle.gd_top.specs.Code.Memory.{moment, Does, Leaves, Sits};
-ghost use Rattle.gd_top.specs.Script.Built.{is_built, is_built_event, is_comment, is_cut, needs_memory};
+ghost use Rattle.gd_top.specs.Script.Kinds.{is_comment, is_cut, needs_memory};
 ghost use Rattle.gd_top.specs.Run.Items.{item_meaning};
 ghost use Rattle.gd_top.specs.Script.LineTaken.{TakesEnd};
 ghost use Rattle.gd_top.specs.Script.Lines.{line_of};
@@ -15,13 +15,13 @@ use crate::halt::Halt;
 use crate::item::altering::alter;
 use crate::item::arming::arm;
 use crate::item::clearing::clear;
-use crate::item::event::{carry_again, carry_event, next_numbered, show};
+use crate::item::event::{carry_again, carry_event, next_numbered, order_event, show};
 use crate::item::lock::tell_lock;
 use crate::item::power::{turn_off, turn_on};
 use crate::memory::Memory;
 use crate::memory::counts::Counts;
 use crate::script::reader::{Ahead, LineBytes, MOST_LINES, next_byte, next_line};
-use gd_base::{Core, Draws, Event, Game, Numbered, Sink, Source, Text, What};
+use gd_base::{Core, Draws, Numbered, Sink, Source, Text};
 use gd_disk::LabDisk;
 use gd_script::{Item, read_line};
 
@@ -55,7 +55,7 @@ pub(crate) fn carry_lines<C: Core, S: Source, K: Sink, L: LabDisk, W: Draws>(
     for _ in 0..MOST_LINES {
         match next_line(input, &mut ahead, &mut line) {
             Ok(true) => {
-                let Some(item) = built_item(line.as_slice()) else {
+                let Some(item) = said_item(line.as_slice()) else {
                     return (memory, Err(Halt::ScriptFault));
                 };
                 // A comment is passed over here, since the memory is moved for each other item.
@@ -103,7 +103,6 @@ fn carry_item<C: Core, K: Sink, L: LabDisk, W: Draws>(
         (moment C.meaning C.view L.state W.block_of K.taken K.faults memory counts.old output.old) }
     requires few { counts.old.offers + 1 ≤ MOST_LINES + 2 * counts.old.power_ons }
     requires grammar { InGrammar item }
-    requires built { is_built item ≡ true }
     requires no_comment { is_comment item ≡ false }
     ensures does { Does (λ M B. item_meaning M B item) result.1
         (moment C.meaning C.view L.state W.block_of K.taken K.faults memory counts.old output.old)
@@ -129,7 +128,6 @@ fn carry_in_phase<C: Core, K: Sink, L: LabDisk, W: Draws>(
         (moment C.meaning C.view L.state W.block_of K.taken K.faults memory counts.old output.old) }
     requires few { counts.old.offers + 1 ≤ MOST_LINES + 2 * counts.old.power_ons }
     requires grammar { InGrammar item }
-    requires built { is_built item ≡ true }
     requires no_comment { is_comment item ≡ false }
     requires no_cut { is_cut item ≡ false }
     ensures does { Does (λ M B. item_meaning M B item) result.1
@@ -141,6 +139,11 @@ fn carry_in_phase<C: Core, K: Sink, L: LabDisk, W: Draws>(
     match memory {
         Memory::On(cabinet) => match item {
             Item::Event(event) => {
+                let e = next_numbered(cabinet.core(), event);
+                carry_event(cabinet, counts, output, text, &e)
+            }
+            Item::OrderEvent { kind, order } => {
+                let event = order_event(cabinet.core(), kind, order);
                 let e = next_numbered(cabinet.core(), event);
                 carry_event(cabinet, counts, output, text, &e)
             }
@@ -184,33 +187,14 @@ fn needs_memory(item: &Item) -> bool
     )
 }
 
-/// The item that a line says, where it is built.
-fn built_item(line: &[u8]) -> Option<Item>
+/// The item that a line says.
+fn said_item(line: &[u8]) -> Option<Item>
     ensures item { result ≡ line_of line.now }
     ensures grammar { IfSome result InGrammar }
-    ensures built { IfSome result (λ item. is_built item ≡ true) }
 {
     match read_line(line) {
-        Ok(item) if is_built(&item) => Some(item),
-        _ => None,
-    }
-}
-
-/// Whether an item is built.
-fn is_built(item: &Item) -> bool
-    ensures { result ≡ is_built item.now }
-{
-    match item {
-        Item::Event(event) | Item::As { event, .. } => is_built_event(event),
-        Item::Again(_)
-        | Item::Off
-        | Item::On
-        | Item::Cut { .. }
-        | Item::Alter { .. }
-        | Item::Clear
-        | Item::Skip => true,
-        Item::Show(What::Meters | What::State) => true,
-        _ => false,
+        Ok(item) => Some(item),
+        Err(_) => None,
     }
 }
 
@@ -219,15 +203,4 @@ fn is_comment(item: &Item) -> bool
     ensures { result ≡ is_comment item.now }
 {
     matches!(item, Item::Skip)
-}
-
-/// Whether the line of an event is built.
-fn is_built_event(event: &Event) -> bool
-    ensures { result ≡ is_built_event event.now }
-{
-    match event {
-        Event::Bill { .. } | Event::Pick { .. } | Event::Take => true,
-        Event::Play { game, .. } => *game == Game::Reels,
-        _ => false,
-    }
 }

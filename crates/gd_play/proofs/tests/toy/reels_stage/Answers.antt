@@ -10,7 +10,7 @@ pub returns-in-None : goal.returns-in-None
 returns-in-None c =
     let toy = c.args.toy.now in
     let words : length c.args.words.now ≡ 16 = omega arith in
-    sym (stage_of_pick toy.setup Game.Reels c.args.bet c.args.words.now c.args.choices.now refl c.in-None.is
+    sym (stage_of_pick toy.setup c.args.bet c.args.words.now c.args.choices.now c.in-None.is
     (shows_pick toy.setup c.args.words.now words toy.reels toy.lengths toy.scatters))
 
 pub win_after-win-requires-clause-turns : goal.win_after-win-requires-clause-turns
@@ -27,4 +27,4 @@ returns-in-Some c =
     let cs = c.args.choices.now in
     c.gamble_stage.ensures
     ∙ ap (λ (win : ℕ). gamble_stage toy.setup cs.turns win) c.win_after-win.ensures
-    ∙ sym (stage_of_door toy.setup Game.Reels c.args.bet c.in-Some.door c.won-base.result c.args.words.now cs refl c.in-Some.is toy.no_pays c.won-base.ensures.win)
+    ∙ sym (stage_of_door toy.setup c.args.bet c.in-Some.door c.won-base.result c.args.words.now cs c.in-Some.is toy.no_pays c.won-base.ensures.win)

@@ -1,12 +1,12 @@
 use Rattle.std.proofs.Common.{sym, subst}
-use Rattle.gd_base.specs.Judging.SoFar.{machine_so_far}
-use Rattle.gd_base.proofs.PayloadLemmas.Views.{so_far_tells}
+use Rattle.gd_image.specs.declared.platform.Platform.{Platform}
+use Rattle.gd_image.specs.Words.{platform_setup, platform_view}
+use Rattle.gd_machine.specs.Meaning.{the_machine}
+use Rattle.gd_machine.proofs.Telling.{machine_tells}
 use Rattle.gd_top.specs.Claims.MemoryLeft.{IsAtRest}
 use Rattle.gd_top.specs.Claims.Trial.{outer, HasCauses, TrialDone}
 use Rattle.gd_top.specs.Code.Memory.{memory_disk, memory_phase, moment, moment_closed}
-use Rattle.gd_top.specs.FirstCore.View.{core_view}
 use Rattle.gd_top.specs.Run.State.{Off}
-use Rattle.gd_top.specs.declared.first_core.FirstCore.{FirstCore}
 use Rattle.gd_top.proofs.TrialLemmas.Ends.{causes}
 use Rattle.gd_top.proofs.TrialLemmas.Told.{trial_done}
 use Rattle.gd_top.proofs.command.trial.run_trial.Goals as goal
@@ -16,10 +16,10 @@ returns-clause-done g c =
     let ran = c.carry_script-memory in
     let memory = ran.result.0 in
     let status = c.end_report-status.result in
-    let meaning = λ (core : FirstCore). machine_so_far core.setup in
-    let was = moment_closed Off meaning core_view g.L.Disk.state g.W.Draws.block_of g.K.Sink.taken g.K.Sink.faults c.args.parts c.new-counts.result c.args.output.now in
-    let now = moment meaning core_view g.L.Disk.state g.W.Draws.block_of g.K.Sink.taken g.K.Sink.faults memory ran.new.counts ran.new.output in
-    let M = machine_so_far c.args.parts.core.setup in
+    let meaning = λ (core : Platform). the_machine (platform_setup core) in
+    let was = moment_closed Off meaning platform_view g.L.Disk.state g.W.Draws.block_of g.K.Sink.taken g.K.Sink.faults c.args.parts c.new-counts.result c.args.output.now in
+    let now = moment meaning platform_view g.L.Disk.state g.W.Draws.block_of g.K.Sink.taken g.K.Sink.faults memory ran.new.counts ran.new.output in
+    let M = the_machine (platform_setup c.args.parts.core) in
     let B = g.W.Draws.block_of c.args.parts.draws in
     let before = outer g.S.Source.left g.S.Source.faults g.K.Sink.taken g.K.Sink.faults g.L.Disk.state c.args.input.now c.args.output.now c.args.parts.disk in
     let rest = c.close-parts.ensures in
@@ -47,7 +47,7 @@ returns-clause-causes g c =
     leaves.write_fault leaves.disk_fault)
 
 pub carry_script-memory-requires-clause-tells : goal.carry_script-memory-requires-clause-tells
-carry_script-memory-requires-clause-tells g c = so_far_tells c.args.parts.core.setup
+carry_script-memory-requires-clause-tells g c = machine_tells (platform_setup c.args.parts.core)
 
 pub carry_script-memory-requires-clause-fresh : goal.carry_script-memory-requires-clause-fresh
 carry_script-memory-requires-clause-fresh g c =

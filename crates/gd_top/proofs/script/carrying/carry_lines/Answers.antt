@@ -1,6 +1,6 @@
 use Rattle.std.proofs.Common.{◌∙◌, ap, sym, subst, refl, ℕ, ◌+◌, ◌<◌, arith, Bool, Result, Ok, Err}
 use Rattle.gd_top.specs.Code.Memory.{moment, outside, CarriesOut, Leaves}
-use Rattle.gd_top.specs.Script.Built.{built_line}
+use Rattle.gd_top.specs.Script.Kinds.{line_alone}
 use Rattle.gd_top.specs.Script.Lines.{line_of}
 use Rattle.gd_top.specs.declared.halt.Halt.{Halt}
 use Rattle.gd_top.specs.declared.script.reader.TheConstants.{MOST_LINES}
@@ -38,7 +38,7 @@ returns-then-is_err-clause-done g c =
     let few : mid.counts.lines < MOST_LINES = omega (arith, c.loop.invariant.lines, c.loop-test.true) in
     line_halts was mid next c.carry_item-next.result.1 _ _ _ _ line c.as_slice.result.now c.loop.invariant.so_far c.loop.invariant.leaves few c.as_slice.ensures.value c.next_line.ensures.no_end
     (taken_whole _ _ line c.in-Ok-true.field-0 c.in-Ok-true.field-0-test c.in-Ok-true.ensures.taken) (sym c.is_err.ensures.value ∙ c.if-is_err.true)
-    (subst (λ l. CarriesOut (λ M B. built_line M B l) c.carry_item-next.result.1 mid next) c.in-Some.ensures.item c.carry_item-next.ensures.does.carried)
+    (subst (λ l. CarriesOut (λ M B. line_alone M B l) c.carry_item-next.result.1 mid next) c.in-Some.ensures.item c.carry_item-next.ensures.does.carried)
 
 pub returns-then-is_err-clause-read_fault : goal.returns-then-is_err-clause-read_fault
 returns-then-is_err-clause-read_fault g c = λ is. absurd (c.carry_item-next.ensures.does.reads_nothing is)
@@ -106,7 +106,7 @@ loop-preserved g c =
     record {
       so_far = line_goes was mid next c.carry_item-next.result.1 _ _ _ line c.as_slice.result.now c.loop.invariant.so_far c.loop.invariant.leaves few c.as_slice.ensures.value c.next_line.ensures.no_end
           (taken_whole _ _ line c.in-Ok-true.field-0 c.in-Ok-true.field-0-test c.in-Ok-true.ensures.taken) went
-          (subst (λ l. CarriesOut (λ M B. built_line M B l) c.carry_item-next.result.1 mid next) c.in-Some.ensures.item c.carry_item-next.ensures.does.carried);
+          (subst (λ l. CarriesOut (λ M B. line_alone M B l) c.carry_item-next.result.1 mid next) c.in-Some.ensures.item c.carry_item-next.ensures.does.carried);
       leaves = recounted was next (Ok tt) _ (leaves_then was mid next (Ok tt) c.loop.invariant.leaves (subst (λ (r : Result (Unit {0}) Halt). Leaves r mid next) went c.carry_item-next.ensures.does.leaves));
       lines = ap (λ (n : ℕ). n + 1) (c.carry_item-next.ensures.lines ∙ c.loop.invariant.lines);
       few = omega (arith, c.loop.invariant.few, c.carry_item-next.ensures.offers);

@@ -1,7 +1,0 @@
-use Rattle.std.proofs.Common.{◌∙◌, ap, List, ℕ, nat_le}
-use Rattle.std.specs.List.{list_all}
-use Rattle.gd_top.proofs.FirstCoreLemmas.Checked.{last_seven}
-use Rattle.gd_top.proofs.first_core.counting.are_within.Goals as goal
-
-pub returns : goal.returns
-returns c = c.are_at_most.ensures ∙ ap (λ (xs : List ℕ). list_all (λ n. nat_le n c.args.count) xs) (last_seven c.args.totals.now c.told-totals)
