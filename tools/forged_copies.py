@@ -14,13 +14,13 @@ FULL_COUNT = 2**36
 TAKEN = 1
 LINE = 118
 
-# What is built of a payload: no digest of a setup, and no lists of recall.
-DIGEST = bytes(32)
-HAS_LISTS = False
+# The digest of the built-in setup, and that of another one.
+DIGEST = bytes.fromhex("52b9d80093ab6a5364b17697949a86777b889bd9198bf1417bd4521e72a89f96")
+OTHER_DIGEST = DIGEST[:-1] + b"\x97"
 
 
 class View:
-    """What a payload spells, of starts and bills alone."""
+    """What a payload spells, of starts and bills alone. The first start is noted, and of the bills those that are given."""
 
     def __init__(self, count, starts, bills, balance, bill_in, noted=()):
         self.count, self.balance = count, balance
@@ -28,11 +28,11 @@ class View:
         self.totals[0], self.totals[11] = bill_in, starts
         self.last = [0] * 9
         self.last[0], self.last[8] = bills, starts
-        self.events = ((1, 1, 0),) if HAS_LISTS and starts else ()
-        self.bills = noted if HAS_LISTS else ()
+        self.events = ((1, 1, 0),) if starts else ()
+        self.bills = noted
 
-    def payload(self):
-        head = DIGEST + self.count.to_bytes(8, "big") + self.balance.to_bytes(8, "big")
+    def payload(self, digest=DIGEST):
+        head = digest + self.count.to_bytes(8, "big") + self.balance.to_bytes(8, "big")
         head += b"".join(total.to_bytes(8, "big") for total in self.totals)
         head += bytes(2) + bytes(10) + bytes(20)
         for last in self.last:
@@ -83,6 +83,7 @@ def file():
         return View(2, 1, 1, value, value, ((2, value),))
 
     started = View(1, 1, 0, 0, 0)
+    unbalanced = View(2, 1, 1, 500, 0)
     at_1, at_2 = copy_of(started), copy_of(billed(500))
     many = FULL_COUNT - 1
     consts = [
@@ -97,7 +98,13 @@ def file():
         ("EMPTIED", "Of a copy at the count 1: one at the sequence 9, with the payload of no entry.",
          masks(at_1, sealed(9, View(0, 0, 0, 0, 0).payload()))),
         ("UNBALANCED", "Of a copy at the count 1: one at the count 2, with 500 cents that nobody put in. It spells no view.",
-         masks(at_1, copy_of(View(2, 1, 1, 500, 0)))),
+         masks(at_1, copy_of(unbalanced))),
+        ("ZEROED", "Of a copy at the count 1: one at the sequence 9, with zeros as its payload, the digest of a setup among them.",
+         masks(at_1, sealed(9, bytes(PAYLOAD_LEN)))),
+        ("OTHER_SETUP", "Of a copy at the count 1: one at the count 2, with a bill of 500 cents taken under another setup.",
+         masks(at_1, sealed(2, billed(500).payload(OTHER_DIGEST)))),
+        ("OTHER_UNBALANCED", "Of a copy at the count 1: one at the count 2, with 500 cents that nobody put in under another setup.",
+         masks(at_1, sealed(2, unbalanced.payload(OTHER_DIGEST)))),
         ("FULL", "Of a copy at the count 1: one of a full history, at 2^36, with 500 cents and as many bills told as it has room for.",
          masks(at_1, copy_of(View(FULL_COUNT, 1, many, 500, 500)))),
         ("NEARLY_FULL", "Of the same copy: one with an entry less.",

@@ -74,8 +74,14 @@ fn both_copies_altered(rt: HostRuntime) -> Result<(), Fail> {
 /// Lines under a lock, and what each prints. None where the line is a script fault.
 #[rattlefmt::skip]
 const UNDER_LOCK: &[(&str, Option<&[&str]>)] = &[
-    // About the machine. The number isn't looked at.
+    // About the machine, by each of its devices. The number isn't looked at.
     ("bill 500", Some(&["locked"])),
+    ("coin 25", Some(&["locked"])),
+    ("voucher 7 2500", Some(&["locked"])),
+    ("printed open", Some(&["locked"])),
+    ("coin-paid 1", Some(&["locked"])),
+    ("open main", Some(&["locked"])),
+    ("handpay", Some(&["locked"])),
     ("play reels 1", Some(&["locked"])),
     ("pick 1", Some(&["locked"])),
     ("take", Some(&["locked"])),
@@ -85,6 +91,8 @@ const UNDER_LOCK: &[(&str, Option<&[&str]>)] = &[
     ("as 0 take", Some(&["locked"])),
     ("show meters", Some(&["locked"])),
     ("show state", Some(&["locked"])),
+    ("show recall", Some(&["locked"])),
+    ("order", Some(&["locked"])),
     // Comments.
     ("", Some(&[])),
     ("# bill 500", Some(&[])),
@@ -94,10 +102,10 @@ const UNDER_LOCK: &[(&str, Option<&[&str]>)] = &[
     ("off", None),
     ("on", None),
     ("alter a 0 255", None),
-    // Not built, or outside the grammar.
-    ("coin 25", None),
-    ("show recall", None),
+    // Outside the grammar.
     ("Clear", None),
+    ("coin 025", None),
+    ("show order", None),
 ];
 
 /// What each line does under a lock. None of them changes the memory.
@@ -429,18 +437,18 @@ fn push_first(bytes: &mut Vec<u8>, line: &str) -> Result<(), Fail> {
 /// Calls of the disk from the first to the last of each part of the run, and how many lines of the report stand before
 /// `disk fault` where one of them fails. An alteration and a line under a lock make no call.
 const CALLS: &[(u64, u64, usize)] = &[
-    // The reading of both copies, which are lost, behind the 29 calls of the first making and its opening.
-    (30, 31, 5),
+    // The reading of both copies, which are lost, behind the 31 calls of the first making and its opening.
+    (32, 33, 5),
     // The making: two reads, a write that shuts gate b alone, a sync, and two writes with a sync each for either copy.
-    (32, 43, 8),
+    (34, 45, 8),
     // The first reading of both copies,
-    (44, 45, 9),
+    (46, 47, 9),
     // and their second reading with the start.
-    (46, 61, 10),
+    (48, 65, 10),
 ];
 
 /// Behind the last of these calls there is none.
-const BEHIND_LAST: u64 = 62;
+const BEHIND_LAST: u64 = 66;
 
 /// At a fault of the disk the report stands up to the failing call. The power is off then.
 #[test]

@@ -71,9 +71,9 @@ const STARTS: &[Cut] = &[
             "end at 4 credit 600"],
         status: Status::Done, left: Left::Sound(4), falls: &[], armed: 0,
     },
-    // Fourteen calls are counted off.
+    // The sixteen calls of the first bill are counted off.
     Cut {
-        script: &["cut call 15 0", "bill 500", "bill 100"],
+        script: &["cut call 17 0", "bill 500", "bill 100"],
         report: &["armed", "ack bill 1 taken at 2", "power 2: a sound 2, b sound 2", "start at 3", "ack bill 2 taken at 4",
             "end at 4 credit 600"],
         status: Status::Done, left: Left::Sound(4), falls: &[3], armed: 0,
@@ -107,7 +107,7 @@ const STARTS: &[Cut] = &[
     },
     // The openings and the bill that is offered again are counted, the repeat isn't.
     Cut {
-        script: &["cut call 6 1", "bill 500", "cut call 2 0", "play reels 1", "off", "on"],
+        script: &["cut call 7 1", "bill 500", "cut call 2 0", "play reels 1", "off", "on"],
         report: &["armed", "power 2: a sound 2, b sound 1", "start at 3 repaired b", "again bill 1 taken at 3", "armed",
             "power 3: a sound 3, b sound 3", "start at 4", "ack player 1 taken at 5", "off", "power 4: a sound 5, b sound 5", "start at 6",
             "end at 6 credit 495"],
@@ -197,7 +197,7 @@ const REPAIRS: &[Cut] = &[
         status: Status::Done, left: Left::Sound(2), falls: &[2], armed: 0,
     },
     Cut {
-        script: &["off", "alter b 2000 1", "cut call 5 3", "cut call 8 1", "on"],
+        script: &["off", "alter b 2000 1", "cut call 5 3", "cut call 9 1", "on"],
         report: &["off", "altered b 2000", "armed", "armed", "power 2: a sound 1, b page 1", "power 3: a sound 1, b sound 1",
             "power 4: a sound 2, b shut", "start at 3 repaired b", "end at 3 credit 0"],
         status: Status::Done, left: Left::Sound(3), falls: &[2, 3], armed: 0,

@@ -93,18 +93,19 @@ const CALLS: &[(u64, u64, usize)] = &[
     (1, 11, 0),
     // The first reading of both copies, before what was found is known.
     (12, 13, 0),
-    // Their second reading, and the start: four writes and three syncs for either copy, of which one page changes.
-    (14, 29, 1),
-    // The bill: as many.
-    (30, 43, 2),
+    // Their second reading, and the start: five writes and three syncs for either copy, of which two pages change, that of
+    // the head and that of the list.
+    (14, 31, 1),
+    // The bill: as many writes and syncs.
+    (32, 47, 2),
     // After the power is on again, the first reading,
-    (44, 45, 7),
+    (48, 49, 7),
     // and the second with the start.
-    (46, 61, 8),
+    (50, 67, 8),
 ];
 
 /// Behind the last of these calls there is none.
-const BEHIND_LAST: u64 = 62;
+const BEHIND_LAST: u64 = 68;
 
 /// The first lines of the report.
 fn first_lines(alloc: Global, count: usize) -> Result<Vec<u8>, Fail> {
@@ -149,15 +150,15 @@ const FOUND: &[&str] = &[
 ];
 
 /// Calls of the disk from the first to the last of each part of that opening, and how copy a is found behind a fault in one of
-/// them. The 43 calls of the making, the first opening and the bill stand before, and two readings of both copies.
+/// them. The 47 calls of the making, the first opening and the bill stand before, and two readings of both copies.
 #[rattlefmt::skip]
 const REPAIR: &[(u64, u64, CopyState)] = &[
     // Gate a is shut: a write and a sync.
-    (48, 49, CopyState::Bad(Why::BadPage(1))),
+    (52, 53, CopyState::Bad(Why::BadPage(1))),
     // The body with its sync, and the gate with its own.
-    (50, 53, CopyState::Bad(Why::Shut)),
+    (54, 57, CopyState::Bad(Why::Shut)),
     // The first write of the start.
-    (54, 54, CopyState::Sound(2)),
+    (58, 58, CopyState::Sound(2)),
 ];
 
 /// At a fault of the disk in a repair, or behind it, the start isn't told, and copy b stands as it was.

@@ -1,8 +1,14 @@
 //! Copies that were altered and whose seal matches again.
 
-use crate::left::{Left, SOUND_2, expect_whole, push_words};
-use crate::masks::{EARLIER, FULL, LATER, MISCOUNTED, NEARLY_FULL, RICHER, UNBALANCED};
-use crate::runs::{lines, report, zeros};
+use crate::cuts::{Cut, expect_cuts};
+use crate::left::{Left, ROOM, SHUT, SOUND_2, expect_whole, push_words};
+use crate::masks::{
+    EARLIER, FULL, LATER, MISCOUNTED, NEARLY_FULL, OTHER_SETUP, OTHER_UNBALANCED, RICHER,
+    UNBALANCED, ZEROED,
+};
+use crate::runs::{lines, report, trial, zeros};
+use gd_base::MemorySource;
+use gd_disk::{DISK_LEN, LabDisk, MemoryLab};
 use gd_store::{CopyState, Found};
 use gd_top::Status;
 use std::alloc::Global;
@@ -61,6 +67,12 @@ const PASSED_OVER: &[Forgery] = &[
     // The same behind a shut gate: the forged copy is written anew.
     Forgery {
         before: &[], printed: &[], a: &[LATER, GATE], b: &[],
+        behind: &["bill 500"],
+        report: &["power 2: a shut, b sound 1", "start at 2 repaired a", "ack bill 1 taken at 3", "end at 3 credit 500"],
+        status: Status::Done, left: Left::Sound(3),
+    },
+    Forgery {
+        before: &[], printed: &[], a: &[OTHER_SETUP, GATE], b: &[],
         behind: &["bill 500"],
         report: &["power 2: a shut, b sound 1", "start at 2 repaired a", "ack bill 1 taken at 3", "end at 3 credit 500"],
         status: Status::Done, left: Left::Sound(3),
@@ -130,6 +142,13 @@ const NO_VIEWS: &[Forgery] = &[
         report: &["power 2: a sound 1, b sound 2", "locked", "cleared", "power 3: a sound 0, b sound 0", "start at 1", "end at 1 credit 0"],
         status: Status::Done, left: Left::Sound(1),
     },
+    // No view under another setup either.
+    Forgery {
+        before: &[], printed: &[], a: &[OTHER_UNBALANCED], b: &[],
+        behind: &["bill 500"],
+        report: &["power 2: a sound 2, b sound 1", "locked", "locked", "end locked"],
+        status: Status::Locked, left: Left::Locked(Found { a: CopyState::Sound(2), b: CopyState::Sound(1) }),
+    },
 ];
 
 /// A forged copy that shows no view locks the memory.
@@ -162,6 +181,123 @@ const FULL_HISTORIES: &[Forgery] = &[
 fn a_forged_full_history(rt: HostRuntime) -> Result<(), Fail> {
     expect_each(&rt, rt.alloc(), FULL_HISTORIES)
 }
+
+// ================ another setup
+
+/// A memory that was made under another setup.
+#[derive(Drop)]
+struct Foreign<'a> {
+    /// The masks on copy a, and those on copy b.
+    a: &'a [(&'a str, &'a str)],
+    b: &'a [(&'a str, &'a str)],
+    /// The line of the power-on, and the digest that was found.
+    power: &'a str,
+    kept: &'a str,
+}
+
+/// The digest of the built-in setup.
+const GIVEN: &str = "52b9d80093ab6a5364b17697949a86777b889bd9198bf1417bd4521e72a89f96";
+
+/// A digest of which the last byte is another.
+const OTHER: &str = "52b9d80093ab6a5364b17697949a86777b889bd9198bf1417bd4521e72a89f97";
+
+/// A digest of zeros.
+const NONE: &str = "0000000000000000000000000000000000000000000000000000000000000000";
+
+#[rattlefmt::skip]
+const FOREIGN: &[Foreign] = &[
+    // Zeros spell the empty view under a digest of zeros. Its count isn't the sequence, which doesn't matter.
+    Foreign { a: ZEROED, b: &[], power: "power 2: a sound 9, b sound 1", kept: NONE },
+    // Another view, in either copy and in both.
+    Foreign { a: OTHER_SETUP, b: &[], power: "power 2: a sound 2, b sound 1", kept: OTHER },
+    Foreign { a: &[], b: OTHER_SETUP, power: "power 2: a sound 1, b sound 2", kept: OTHER },
+    Foreign { a: OTHER_SETUP, b: OTHER_SETUP, power: "power 2: a sound 2, b sound 2", kept: OTHER },
+    Foreign { a: ZEROED, b: OTHER_SETUP, power: "power 2: a sound 9, b sound 2", kept: NONE },
+];
+
+/// A memory of another setup ends the run at the opening that finds it. Both digests are told, the lines behind it aren't
+/// carried out, no cut comes, and the memory is left byte for byte.
+#[test]
+fn a_memory_of_another_setup(rt: HostRuntime) -> Result<(), Fail> {
+    for foreign in FOREIGN {
+        expect_foreign(&rt, rt.alloc(), foreign)?;
+    }
+    Ok(())
+}
+
+/// Runs a trial up to the power-on over such a memory, and one that goes on.
+fn expect_foreign(rt: &impl Abort, alloc: Global, foreign: &Foreign) -> Result<(), Fail> {
+    let mut script = lines(alloc, &["cut call 1 1", "off"])?;
+    let mut wanted = report(alloc, &["armed", "off"])?;
+    push_masks(&mut script, &mut wanted, "a ", foreign.a)?;
+    push_masks(&mut script, &mut wanted, "b ", foreign.b)?;
+
+    let source = MemorySource::of(script.clone()?, None);
+    let lab = MemoryLab::new(alloc, DISK_LEN)?;
+    let mut before = trial(alloc, &["trial"], source, ROOM, lab)?;
+    assert_eq!(rt; before.status, Status::Done);
+    if before.lab.powered() || before.lab.power_on().is_err() {
+        return Err(Fail::new("the power wasn't off, or stays off"));
+    }
+
+    push_words(&mut script, &["on\nbill 500\nclear\n"])?;
+    push_words(&mut wanted, &[foreign.power, "\ndiffers kept "])?;
+    push_words(&mut wanted, &[foreign.kept, " given ", GIVEN, "\n"])?;
+    let source = MemorySource::of(script, None);
+    let lab = MemoryLab::new(alloc, DISK_LEN)?;
+    let behind = trial(alloc, &["trial"], source, ROOM, lab)?;
+    assert_eq!(rt; behind.status, Status::SetupDiffers);
+    assert_eq!(rt; behind.output.bytes(), wanted.as_slice());
+    assert!(rt; behind.falls.as_slice().is_empty());
+    assert_eq!(rt; behind.lab.cuts_armed(), 1);
+    assert_eq!(rt; behind.lab.powered(), true);
+    let left = image(alloc, behind.lab)?;
+    assert_eq!(rt; image(alloc, before.lab)?.as_slice(), left.as_slice());
+    Ok(())
+}
+
+/// The bytes of a disk.
+fn image<L: LabDisk + Drop>(alloc: Global, mut lab: L) -> Result<Vec<u8>, Fail> {
+    let mut bytes = vec![in alloc; 0; DISK_LEN as usize]?;
+    if lab.len() != DISK_LEN || lab.read(0, &mut bytes).is_err() {
+        return Err(Fail::new("no bytes were read"));
+    }
+    Ok(bytes)
+}
+
+/// The first call of a clearing shuts a copy that locks the memory, and is cut: what stands in the other copy is of another
+/// setup. No line is printed of the clearing.
+#[test]
+fn a_clearing_that_uncovers_another_setup(rt: HostRuntime) -> Result<(), Fail> {
+    let alloc = rt.alloc();
+    let mut script = lines(alloc, &["off"])?;
+    let mut wanted = report(alloc, &["off"])?;
+    push_masks(&mut script, &mut wanted, "a ", MISCOUNTED)?;
+    push_masks(&mut script, &mut wanted, "b ", OTHER_SETUP)?;
+    push_words(&mut script, &["on\ncut call 1 1\nclear\nbill 500\n"])?;
+    push_words(
+        &mut wanted,
+        &["power 2: a sound 9, b sound 2\nlocked\narmed\npower 3: a shut, b sound 2\n"],
+    )?;
+    push_words(
+        &mut wanted,
+        &["differs kept ", OTHER, " given ", GIVEN, "\n"],
+    )?;
+    let told = Cut {
+        script: &[],
+        report: &[],
+        status: Status::SetupDiffers,
+        left: Left::Locked(Found {
+            a: SHUT,
+            b: CopyState::Sound(2),
+        }),
+        falls: &[3],
+        armed: 0,
+    };
+    expect_cuts(&rt, alloc, zeros(alloc), script, &wanted, &told)
+}
+
+// ================ trials of forgeries
 
 /// Runs a trial of each of these forgeries.
 fn expect_each(rt: &impl Abort, alloc: Global, forgeries: &[Forgery]) -> Result<(), Fail> {

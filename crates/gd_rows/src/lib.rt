@@ -4,6 +4,8 @@
 #[cfg(test)]
 mod alterations;
 #[cfg(test)]
+mod carried;
+#[cfg(test)]
 mod clearings;
 #[cfg(test)]
 mod cut_limits;
@@ -23,6 +25,12 @@ mod inputs;
 mod left;
 #[cfg(test)]
 mod masks;
+#[cfg(test)]
+mod money;
+#[cfg(test)]
+mod payouts;
+#[cfg(test)]
+mod plays;
 #[cfg(test)]
 mod refusals;
 #[cfg(test)]

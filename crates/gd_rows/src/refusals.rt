@@ -49,7 +49,8 @@ const SCRIPTS: &[(&[u8], Status, &[&str])] = &[
     (b"bill 500", Status::ScriptFault, &["line 1"]),
     (b"bill 500\r\n", Status::ScriptFault, &["line 1"]),
     (b"bill 500\n\n# a comment\nbill 0500\nbill 500\n", Status::ScriptFault, &["ack bill 1 taken at 2", "line 4"]),
-    (b"bill 500\ncoin 25\n", Status::ScriptFault, &["ack bill 1 taken at 2", "line 2"]),
+    (b"bill 500\ncoin 25\n", Status::Done, &["ack bill 1 taken at 2", "ack coin 1 taken at 3", "end at 3 credit 525"]),
+    (b"coin 25\ncoin 25 1\n", Status::ScriptFault, &["ack coin 1 taken at 2", "line 2"]),
     (b"bill 500\n# a comment\n\n", Status::Done, &["ack bill 1 taken at 2", "end at 2 credit 500"]),
 ];
 

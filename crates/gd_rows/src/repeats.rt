@@ -55,6 +55,18 @@ const REPEATS: &[(&[&str], &[&str], u64)] = &[
     (&["bill 500", "play reels 1", "again bill", "again player", "as 1 play reels 9", "as 2 bill 100", "as 2 take", "as 2 pick 1", "as 4 take"],
         &["ack bill 1 taken at 2", "ack player 1 taken at 3", "again bill 1 taken at 3", "again player 1 taken at 3", "again player 1 taken at 3",
             "ack bill 2 taken at 4", "ack player 2 refused 8 no-play at 5", "again player 2 refused 8 no-play at 5", "step player expected 3", "end at 5 credit 595"], 5),
+    (&["as 1 coin 25", "again coin", "as 1 coin 50", "as 3 coin 25", "as 2 coin 50", "again coin"],
+        &["ack coin 1 taken at 2", "again coin 1 taken at 2", "again coin 1 taken at 2", "step coin expected 2", "ack coin 2 refused 3 value-not-enabled at 3",
+            "again coin 2 refused 3 value-not-enabled at 3", "end at 3 credit 25"], 3),
+    (&["voucher 7 100", "again reader", "hopper-empty 5", "again hopper", "open main", "again doors", "shut main", "as 2 open main",
+        "paper-out", "again printer", "clear-tilt paper-out", "again attendant"],
+        &["ack reader 1 taken at 2", "again reader 1 taken at 2", "ack hopper 1 refused 12 no-such-order at 3", "again hopper 1 refused 12 no-such-order at 3",
+            "ack doors 1 taken at 4", "again doors 1 taken at 4", "ack doors 2 taken at 5", "again doors 2 taken at 5", "ack printer 1 taken at 6",
+            "again printer 1 taken at 6", "ack attendant 1 taken at 7", "again attendant 1 taken at 7", "end at 7 credit 100"], 7),
+    // With a refusal the condition is kept, also where it stands no more.
+    (&["coin-jam", "coin 25", "clear-tilt coin-jam", "again coin", "coin 25"],
+        &["ack coin 1 taken at 2", "ack coin 2 refused 1 locked-up coin-jam at 3", "ack attendant 1 taken at 4",
+            "again coin 2 refused 1 locked-up coin-jam at 4", "ack coin 3 taken at 5", "end at 5 credit 25"], 5),
     // Over a loss of power the reply is kept. The count is then that of the start.
     (&["bill 500", "off", "on", "again bill", "as 1 bill 100", "as 3 bill 500", "as 2 bill 100", "as 1 bill 500"],
         &["ack bill 1 taken at 2", "off", "power 2: a sound 2, b sound 2", "start at 3", "again bill 1 taken at 3", "again bill 1 taken at 3", "step bill expected 2",
