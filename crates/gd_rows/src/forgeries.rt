@@ -219,8 +219,12 @@ const FOREIGN: &[Foreign] = &[
 /// carried out, no cut comes, and the memory is left byte for byte.
 #[test]
 fn a_memory_of_another_setup(rt: HostRuntime) -> Result<(), Fail> {
-    for foreign in FOREIGN {
-        expect_foreign(&rt, rt.alloc(), foreign)?;
+    expect_each_foreign(&rt, rt.alloc(), FOREIGN)
+}
+
+fn expect_each_foreign(rt: &impl Abort, alloc: Global, all: &[Foreign]) -> Result<(), Fail> {
+    for foreign in all {
+        expect_foreign(rt, alloc, foreign)?;
     }
     Ok(())
 }
