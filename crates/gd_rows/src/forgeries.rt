@@ -205,21 +205,27 @@ const OTHER: &str = "52b9d80093ab6a5364b17697949a86777b889bd9198bf1417bd4521e72a
 const NONE: &str = "0000000000000000000000000000000000000000000000000000000000000000";
 
 #[rattlefmt::skip]
-const FOREIGN: &[Foreign] = &[
-    // Zeros spell the empty view under a digest of zeros. Its count isn't the sequence, which doesn't matter.
-    Foreign { a: ZEROED, b: &[], power: "power 2: a sound 9, b sound 1", kept: NONE },
-    // Another view, in either copy and in both.
+const FOREIGN_COPIES: &[Foreign] = &[
     Foreign { a: OTHER_SETUP, b: &[], power: "power 2: a sound 2, b sound 1", kept: OTHER },
     Foreign { a: &[], b: OTHER_SETUP, power: "power 2: a sound 1, b sound 2", kept: OTHER },
-    Foreign { a: OTHER_SETUP, b: OTHER_SETUP, power: "power 2: a sound 2, b sound 2", kept: OTHER },
-    Foreign { a: ZEROED, b: OTHER_SETUP, power: "power 2: a sound 9, b sound 2", kept: NONE },
 ];
+
+/// Zeros spell the empty view under a digest of zeros. Its count isn't the sequence, which doesn't matter.
+#[rattlefmt::skip]
+const TWO_FOREIGN: Foreign =
+    Foreign { a: ZEROED, b: OTHER_SETUP, power: "power 2: a sound 9, b sound 2", kept: NONE };
 
 /// A memory of another setup ends the run at the opening that finds it. Both digests are told, the lines behind it aren't
 /// carried out, no cut comes, and the memory is left byte for byte.
 #[test]
 fn a_memory_of_another_setup(rt: HostRuntime) -> Result<(), Fail> {
-    expect_each_foreign(&rt, rt.alloc(), FOREIGN)
+    expect_each_foreign(&rt, rt.alloc(), FOREIGN_COPIES)
+}
+
+/// Where both copies are of other setups, the later one is told.
+#[test]
+fn memories_of_two_other_setups(rt: HostRuntime) -> Result<(), Fail> {
+    expect_foreign(&rt, rt.alloc(), &TWO_FOREIGN)
 }
 
 fn expect_each_foreign(rt: &impl Abort, alloc: Global, all: &[Foreign]) -> Result<(), Fail> {
