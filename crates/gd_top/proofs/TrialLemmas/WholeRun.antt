@@ -95,11 +95,9 @@ module _ {V : Type 0} (M : Machine V) (B : Blocks) where
         left = left;
       }
 
-      abbrev first_lines : (source : ScriptOf was.left) → (others : List (Option Item)) × (script_of source.script ≡ lines ++ others) → length now.disk.armed ≡ length t.armed
-          → (t.forged ≡ 0 → (t.other_views ≡ 0) × (t.other_locks ≡ 0)) → FirstLines M B falls was now
-      first_lines source begins armed explained = record {
-        script = source.script;
-        of_source = source.of_source;
+      abbrev first_lines : (all : List (Option Item)) → (others : List (Option Item)) × (all ≡ lines ++ others) → length now.disk.armed ≡ length t.armed
+          → (t.forged ≡ 0 → (t.other_views ≡ 0) × (t.other_locks ≡ 0)) → FirstLines M B all falls was now
+      first_lines all begins armed explained = record {
         lines = lines;
         begins = begins;
         starts = starts_in M now.disk.found;
@@ -121,10 +119,12 @@ module _ {V : Type 0} (M : Machine V) (B : Blocks) where
 
       -- a front of its last line was given
       front_of : (source : ScriptOf was.left) (begins : (others : List (Option Item)) × (script_of source.script ≡ lines ++ others)) (armed : length now.disk.armed ≡ length t.armed)
-          (explained : t.forged ≡ 0 → (t.other_views ≡ 0) × (t.other_locks ≡ 0)) (text : List ℕ) → IsLastLine M B (first_lines source begins armed explained) text → AppendsFront mid now.taken text
+          (explained : t.forged ≡ 0 → (t.other_views ≡ 0) × (t.other_locks ≡ 0)) (text : List ℕ) → IsLastLine M B (first_lines (script_of source.script) begins armed explained) text → AppendsFront mid now.taken text
           → IsLeftAt M run now.disk → WroteFront M B falls was now
       front_of source begins armed explained text last p left = record {
-        first = first_lines source begins armed explained;
+        script = source.script;
+        of_source = source.of_source;
+        first = first_lines (script_of source.script) begins armed explained;
         written = inl (text, last, p.front, with_text p.front p.appended, p.rest, p.whole);
         left = inr left;
       }
@@ -174,13 +174,11 @@ module _ {V : Type 0} (M : Machine V) (B : Blocks) where
 
     -- ================ a run that ended in one of these lines
 
-    abbrev ending_first : (lines : List (Option Item)) (k : Ending M (run_meaning M B lines) first made ended) (source : ScriptOf was.left)
-        → (others : List (Option Item)) × (script_of source.script ≡ lines ++ others) → length now.disk.armed ≡ length k.end.state.armed → FirstLines M B falls was now
-    ending_first lines k source begins armed =
+    abbrev ending_first : (all lines : List (Option Item)) (k : Ending M (run_meaning M B lines) first made ended)
+        → (others : List (Option Item)) × (all ≡ lines ++ others) → length now.disk.armed ≡ length k.end.state.armed → FirstLines M B all falls was now
+    ending_first all lines k begins armed =
         let is : k.end ≡ trial_meaning M B lines falls k.found.used k.broken_at = sym k.tells ∙ ap (λ (fs : List ℕ). trial_meaning M B lines fs k.found.used k.broken_at) (sym k.fallen) in
         record {
-          script = source.script;
-          of_source = source.of_source;
           lines = lines;
           begins = begins;
           starts = k.found.used;
@@ -201,7 +199,9 @@ module _ {V : Type 0} (M : Machine V) (B : Blocks) where
     wrote_broken k last =
         let end = k.broken.ending.end in
         record {
-          first = ending_first k.lines k.broken.ending k.source k.begins k.broken.armed;
+          script = k.source.script;
+          of_source = k.source.of_source;
+          first = ending_first (script_of k.source.script) k.lines k.broken.ending k.begins k.broken.armed;
           breaks = k.broken.breaks;
           written = subst (λ (o : Outcome). Appends was.taken now.taken (end.report ++ last_line M o end.state)) (sym k.broken.breaks)
               (Appends-trans was.taken mid now.taken end.report (codes "disk fault\n") k.broken.printed last);
@@ -212,7 +212,9 @@ module _ {V : Type 0} (M : Machine V) (B : Blocks) where
     front_broken k rose p =
         let end = k.broken.ending.end in
         record {
-          first = ending_first k.lines k.broken.ending k.source k.begins k.broken.armed;
+          script = k.source.script;
+          of_source = k.source.of_source;
+          first = ending_first (script_of k.source.script) k.lines k.broken.ending k.begins k.broken.armed;
           written = inl (codes "disk fault\n", inr (inl (refl, k.broken.breaks, rose)), p.front, Appends-trans was.taken mid now.taken end.report p.front k.broken.printed p.appended, p.rest, p.whole);
           left = inr (subst (λ (o : Outcome). IsLeftAt M (record { report = end.report; state = end.state; outcome = o }) now.disk) (sym k.broken.breaks) k.broken.left);
         }
@@ -222,7 +224,9 @@ module _ {V : Type 0} (M : Machine V) (B : Blocks) where
     front_opening k nothing =
         let source = source_of was.left in
         record {
-          first = ending_first [] (ending_at M (power_on M B Nothing Done) (run_meaning M B []) first made ended (λ x. opening_alone (at first x)) k.ending) source (script_of source.script, refl) k.armed;
+          script = source.script;
+          of_source = source.of_source;
+          first = ending_first (script_of source.script) [] (ending_at M (power_on M B Nothing Done) (run_meaning M B []) first made ended (λ x. opening_alone (at first x)) k.ending) (script_of source.script, refl) k.armed;
           written = inr (front_still was.taken mid now.taken k.ending.end.report k.printed nothing, inl refl);
           left = inr k.left;
         }
@@ -251,7 +255,9 @@ module _ {V : Type 0} (M : Machine V) (B : Blocks) where
       front_line nothing =
           let p = front_still k.between.taken mid now.taken here.end.report k.unwritten.printed nothing in
           record {
-            first = ending_first (k.earlier ++ k.line ∷ []) joined k.source k.begins k.unwritten.armed;
+            script = k.source.script;
+            of_source = k.source.of_source;
+            first = ending_first (script_of k.source.script) (k.earlier ++ k.line ∷ []) joined k.begins k.unwritten.armed;
             written = inr (
               front_then was.taken k.between.taken now.taken k.carried.report here.end.report k.carried.printed p,
               inr (
@@ -277,38 +283,42 @@ module _ {V : Type 0} (M : Machine V) (B : Blocks) where
           sym (ap (λ (t : Part V). followed_by t (λ u. lines_meaning M B [] u)) (no_start M B Nothing Done (at first (only [] [] None))))
           ∙ ap (λ (fs : List ℕ). trial_meaning M B [] fs [] None) (sym unfallen)
 
-      abbrev unmade_first : FirstLines M B falls was now
-      unmade_first =
+      abbrev unmade_first : (all : List (Option Item)) → FirstLines M B all falls was now
+      unmade_first all = record {
+        lines = [];
+        begins = (all, refl);
+        starts = [];
+        unread = [];
+        of_found = ap (starts_in M) found;
+        few = omega arith;
+        ends_at = None;
+        run = unmade;
+        is_run = unmade_is;
+        legal = legal_at unmade [] falls [] None unmade_is;
+        used_up = (refl, refl);
+        armed = ap length unarmed;
+        explained = λ none. (refl, refl);
+      }
+
+      pub wrote_unmade : Appends mid now.taken (codes "disk fault\n") → WroteBroken M B falls was now
+      wrote_unmade last =
           let source = source_of was.left in
           record {
             script = source.script;
             of_source = source.of_source;
-            lines = [];
-            begins = (script_of source.script, refl);
-            starts = [];
-            unread = [];
-            of_found = ap (starts_in M) found;
-            few = omega arith;
-            ends_at = None;
-            run = unmade;
-            is_run = unmade_is;
-            legal = legal_at unmade [] falls [] None unmade_is;
-            used_up = (refl, refl);
-            armed = ap length unarmed;
-            explained = λ none. (refl, refl);
+            first = unmade_first (script_of source.script);
+            breaks = refl;
+            written = subst (λ (taken : Option (List ℕ)). Appends taken now.taken (codes "disk fault\n")) printed last;
+            left = inl (found, few);
           }
 
-      pub wrote_unmade : Appends mid now.taken (codes "disk fault\n") → WroteBroken M B falls was now
-      wrote_unmade last = record {
-        first = unmade_first;
-        breaks = refl;
-        written = subst (λ (taken : Option (List ℕ)). Appends taken now.taken (codes "disk fault\n")) printed last;
-        left = inl (found, few);
-      }
-
       pub front_unmade : Rose was.disk.faults now.disk.faults → AppendsFront mid now.taken (codes "disk fault\n") → WroteFront M B falls was now
-      front_unmade rose p = record {
-        first = unmade_first;
-        written = inl (codes "disk fault\n", inr (inl (refl, refl, rose)), p.front, subst (λ (taken : Option (List ℕ)). Appends taken now.taken p.front) printed p.appended, p.rest, p.whole);
-        left = inl (found, few);
-      }
+      front_unmade rose p =
+          let source = source_of was.left in
+          record {
+            script = source.script;
+            of_source = source.of_source;
+            first = unmade_first (script_of source.script);
+            written = inl (codes "disk fault\n", inr (inl (refl, refl, rose)), p.front, subst (λ (taken : Option (List ℕ)). Appends taken now.taken p.front) printed p.appended, p.rest, p.whole);
+            left = inl (found, few);
+          }

@@ -68,13 +68,11 @@ pub record WroteToFault {V : Type 0} (M : Machine V) (B : Blocks) (falls : List 
 
 -- ================ a run that the disk or the sink ended
 
--- A run of the first lines of a script, over all that was found, or all but the image that was found last. It may end in an
--- offer, or where no start is left.
-pub record FirstLines {V : Type 0} (M : Machine V) (B : Blocks) (falls : List ℕ) (was now : Outer) : Type 0 where
-  pub script : List ℕ
-  pub of_source : IfSome was.left (λ bytes. bytes ≡ script)
+-- A run of the first of these lines, over all that was found, or all but the image that was found last. It may end in an offer,
+-- or where no start is left.
+pub record FirstLines {V : Type 0} (M : Machine V) (B : Blocks) (all : List (Option Item)) (falls : List ℕ) (was now : Outer) : Type 0 where
   pub lines : List (Option Item)
-  pub begins : (others : List (Option Item)) × (script_of script ≡ lines ++ others)
+  pub begins : (others : List (Option Item)) × (all ≡ lines ++ others)
   pub starts : List (Start V)
   pub unread : List (Start V)
   pub of_found : starts_in M now.disk.found ≡ starts ++ unread
@@ -93,22 +91,24 @@ IsUnmade was now = (now.disk.found ≡ []) × (now.disk.syncs < was.disk.syncs +
 
 -- 5: the disk failed. What is told up to there was written.
 pub record WroteBroken {V : Type 0} (M : Machine V) (B : Blocks) (falls : List ℕ) (was now : Outer) : Type 0 where
-  pub first : FirstLines M B falls was now
+  pub script : List ℕ
+  pub of_source : IfSome was.left (λ bytes. bytes ≡ script)
+  pub first : FirstLines M B (script_of script) falls was now
   pub breaks : first.run.outcome ≡ Breaks
   pub written : Appends was.taken now.taken (report_of M first.run)
   pub left : IsUnmade was now ⊎ IsLeftBroken M first.run.state now.disk
 
--- Whether a run may have begun to write this last line: that of a whole script, one that tells a fault of the disk where its count
+-- Whether a run may have begun to write this last line: that of all the lines, one that tells a fault of the disk where its count
 -- rose, or one that tells a fault of the source where its count rose.
-abbrev pub IsLastLine : {V : Type 0} (M : Machine V) (B : Blocks) {falls : List ℕ} {was now : Outer} → FirstLines M B falls was now → List ℕ → Type 0
-IsLastLine M B {was = was} {now = now} first text =
-    ((text ≡ last_line M first.run.outcome first.run.state) × (first.run.outcome ≡ Breaks → ⊥) × (script_of first.script ≡ first.lines))
+abbrev pub IsLastLine : {V : Type 0} (M : Machine V) (B : Blocks) {all : List (Option Item)} {falls : List ℕ} {was now : Outer} → FirstLines M B all falls was now → List ℕ → Type 0
+IsLastLine M B {all = all} {was = was} {now = now} first text =
+    ((text ≡ last_line M first.run.outcome first.run.state) × (first.run.outcome ≡ Breaks → ⊥) × (all ≡ first.lines))
     ⊎ (((text ≡ codes "disk fault\n") × (first.run.outcome ≡ Breaks) × Rose was.disk.faults now.disk.faults)
     ⊎ ((text ≡ codes "read fault\n") × (first.run.outcome ≡ Goes) × Rose was.read_faults now.read_faults))
 
 -- What was written where the sink failed: all that the run prints and a front of its last line, or a front of what the run prints.
--- All that is told before the last of these lines of the script was written.
-abbrev pub WroteSome : {V : Type 0} (M : Machine V) (B : Blocks) {falls : List ℕ} {was now : Outer} → FirstLines M B falls was now → Type 0
+-- All that is told before the last of these lines was written.
+abbrev pub WroteSome : {V : Type 0} (M : Machine V) (B : Blocks) {all : List (Option Item)} {falls : List ℕ} {was now : Outer} → FirstLines M B all falls was now → Type 0
 WroteSome M B {falls = falls} {was = was} {now = now} first =
     ((text : List ℕ) × IsLastLine M B first text × (part : List ℕ) × Appends was.taken now.taken (first.run.report ++ part) × (rest : List ℕ) × (part ++ rest ≡ text))
     ⊎ (AppendsFront was.taken now.taken first.run.report
@@ -118,7 +118,9 @@ WroteSome M B {falls = falls} {was = was} {now = now} first =
 
 -- 4: the sink failed
 pub record WroteFront {V : Type 0} (M : Machine V) (B : Blocks) (falls : List ℕ) (was now : Outer) : Type 0 where
-  pub first : FirstLines M B falls was now
+  pub script : List ℕ
+  pub of_source : IfSome was.left (λ bytes. bytes ≡ script)
+  pub first : FirstLines M B (script_of script) falls was now
   pub written : WroteSome M B first
   pub left : IsUnmade was now ⊎ IsLeftAt M first.run now.disk
 
