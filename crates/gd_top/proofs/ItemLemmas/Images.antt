@@ -188,6 +188,16 @@ module _ {V : Type 0} (M : Machine V) where
       never : Shows w ≡ Unreadable → ⊥
       never e = cc e
 
+  -- and none of another setup is found
+  pub masked_known : (v : V) (masks : List Mask) (image : List ℕ) → IsMasked M v masks image → AreWithin masks → length image ≡ DISK_LEN → is_forged masks (found_behind LAYOUT image) ≡ false → (kept : List ℕ) → shows M image ≡ Foreign kept → ⊥
+  masked_known v masks image h within long unforged kept foreign = ⊎_elim (λ is. other (shows M image) is foreign) (λ bad. never (shows M image) bad.2 foreign) (masked_found v masks image h within long unforged)
+    where
+      other : (s : Spelled V) → s ≡ Shows v → s ≡ Foreign kept → ⊥
+      other s is also = cc (is, also)
+
+      never : (s : Spelled V) → s ≡ Unreadable → s ≡ Foreign kept → ⊥
+      never s is also = cc (is, also)
+
   -- and a lock has its reason
   pub masked_lock : (v : V) (masks : List Mask) (image : List ℕ) → IsMasked M v masks image → AreWithin masks → length image ≡ DISK_LEN → shows M image ≡ Unreadable → is_forged masks (found_behind LAYOUT image) ≡ false → may_lock Nothing masks ≡ true
   masked_lock v masks image h within long shut unforged = ⊎_elim (λ is. absurd (never (sym is ∙ shut))) (λ bad. both_are (is_altered Side.A masks) (is_altered Side.B masks) bad.0 bad.1) (masked_found v masks image h within long unforged)

@@ -448,7 +448,7 @@ module _ {V : Type 0} (making : Bool) (was : Moment V) where
           rest u = ends Differs [] u
 
           clear : IsClear t
-          clear = differ_clear forged s fits.explained
+          clear = differ_clear M h.tells image h.long s kept shown flight was.disk.found fits.within (fits.near image h.could_be) (fits.fallen image h.could_be)
 
           text : List ℕ
           text = line_as ++ differs_line kept M.digest

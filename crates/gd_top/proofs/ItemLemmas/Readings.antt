@@ -3,7 +3,7 @@ use Rattle.std.proofs.Common.{◌≡◌, ◌∙◌, ◌⊎◌, inl, inr, ⊎_eli
 use Rattle.gd_base.specs.Histories.Entry.{Entry}
 use Rattle.gd_base.specs.Judging.Machine.{Machine}
 use Rattle.gd_base.specs.Laws.TellsViews.{HasPayload, TellsViews}
-use Rattle.gd_base.specs.Payloads.Spelled.{Shows, Unreadable}
+use Rattle.gd_base.specs.Payloads.Spelled.{Spelled, Shows, Foreign, Unreadable}
 use Rattle.gd_cabinet.specs.Shown.{shows}
 use Rattle.gd_disk.specs.declared.lengths.TheConstants.{DISK_LEN}
 use Rattle.gd_store.specs.Copy.{AreBad}
@@ -15,7 +15,7 @@ use Rattle.gd_top.specs.Code.Standing.{Standing, Later, at, only}
 use Rattle.gd_top.specs.Run.Openings.{may_lock, powered, resolved, turned_on, unexplained}
 use Rattle.gd_top.specs.Run.Starts.{start_in}
 use Rattle.gd_top.specs.Run.State.{Start, Flight, Nothing, Recording, Making, On, Locked}
-use Rattle.gd_top.proofs.ItemLemmas.Images.{bad_shows, masked_bad, masked_lock, masked_view, one_view, shown_boots}
+use Rattle.gd_top.proofs.ItemLemmas.Images.{bad_shows, masked_bad, masked_known, masked_lock, masked_view, one_view, shown_boots}
 use Rattle.gd_top.proofs.RunLemmas.Equations.{resolved_nothing}
 use Rattle.gd_top.proofs.RunLemmas.Resolved.{found_done, found_empty, found_nonempty, found_undone}
 use Rattle.gd_top.proofs.RunLemmas.Standings.{IsClear}
@@ -82,18 +82,15 @@ unforged : (forged : Bool) (n : ℕ) → (if forged then n + 1 else n) ≡ 0 →
 unforged false n none = (refl, none)
 unforged true n none = absurd (omega (arith, none))
 
--- the memory was made under another setup: an offer more, without a sync
+-- the memory was made under another setup: an offer more, without a sync, and a view more that nothing explains
 abbrev pub differ_by : {V : Type 0} → (forged : Bool) → Standing V → Standing V
 differ_by forged s = record s {
   power_ons = s.power_ons + 1;
   offers = s.offers + 1;
   syncs = s.syncs + 0;
   forged = if forged then s.forged + 1 else s.forged;
+  other_views = s.other_views + 1;
 }
-
--- and where nothing was forged, each view and each lock so far has its reason
-pub differ_clear : {V : Type 0} (forged : Bool) (s : Standing V) → IsClear s → IsClear (differ_by forged s)
-differ_clear forged s clear none = clear (unforged forged s.forged none).1
 
 module _ {V : Type 0} (M : Machine V) (tells : TellsViews M) (image : List ℕ) (long : length image ≡ DISK_LEN) (s : Standing V) where
   abbrev start : Start V
@@ -239,3 +236,30 @@ module _ {V : Type 0} (M : Machine V) (tells : TellsViews M) (image : List ℕ) 
   found_shut (Recording e) found clear within shut (inr is) fallen = absurd (not_shown (M.effect s.view e) is shut)
   found_shut Making found clear within shut near fallen =
       shut_by Making clear (λ none so_far. (refl, ⊎_elim (λ bad. bad) (λ is. absurd (not_shown M.empty is shut)) (fallen.1 so_far)))
+
+  -- ================ another setup
+
+  module _ (kept : List ℕ) (foreign : shows M image ≡ Foreign kept) where
+    not_of_view : (v : V) → shows M image ≡ Shows v → ⊥
+    not_of_view v is = never (shows M image) is foreign
+      where
+        never : (s : Spelled V) → s ≡ Shows v → s ≡ Foreign kept → ⊥
+        never s is also = cc (is, also)
+
+    not_bad : AreBad LAYOUT image → ⊥
+    not_bad bad = never (shows M image) (bad_shows M image bad) foreign
+      where
+        never : (s : Spelled V) → s ≡ Unreadable → s ≡ Foreign kept → ⊥
+        never s is also = cc (is, also)
+
+    -- where nothing is forged an image is near to a view, so that it shows none of another setup
+    forged_by : (flight : Flight) (found : List (List ℕ)) → AreWithin s.masks → IsNear M flight (at s (only [] [] None)) found image → IsFallen M flight s found image → forged ≡ false → s.forged ≡ 0 → ⊥
+    forged_by Nothing found within (inl masked) fallen none so_far = masked_known M s.view s.masks image masked within long none kept foreign
+    forged_by Nothing found within (inr still) fallen none so_far = not_of_view s.view still.1
+    forged_by (Recording e) found within (inl is) fallen none so_far = not_of_view s.view is
+    forged_by (Recording e) found within (inr is) fallen none so_far = not_of_view (M.effect s.view e) is
+    forged_by Making found within near fallen none so_far = ⊎_elim not_bad (not_of_view M.empty) (fallen.1 so_far)
+
+    -- so each view and each lock has its reason
+    pub differ_clear : (flight : Flight) (found : List (List ℕ)) → AreWithin s.masks → IsNear M flight (at s (only [] [] None)) found image → IsFallen M flight s found image → IsClear (differ_by forged s)
+    differ_clear flight found within near fallen none = let first = unforged forged s.forged none in absurd (forged_by flight found within near fallen first.0 first.1)

@@ -21,7 +21,7 @@ use Rattle.gd_top.specs.declared.script.reader.TheConstants.{MOST_LINES}
 use Rattle.gd_top.specs.Run.Items.{below_limit, at_limit, in_trial, with_power, next_numbered, event_meaning, order_of, again_meaning, off_meaning, on_meaning, alter_meaning, clear_meaning, item_meaning, one_more, line_meaning, lines_meaning}
 use Rattle.gd_top.specs.Run.Life.{unopened, trial_meaning}
 use Rattle.gd_top.specs.Run.Offers.{Fate, Whole, Fell, Broke, Offer, is_head, under_unit, under_cuts, is_broken, unless_broken, counted, offer, syncs_of_event, syncs_of_making}
-use Rattle.gd_top.specs.Run.Openings.{Wanted, Done, Answer, Cleared, Reopening, unexplained, cleared, resolved, locked, recorded, record_entry, answered, answered_by, resumed, still_wanted, turned_on, turned_off, start_entry, started, opened_full, opened, made, make, locked_with, found_open, powered, reopen, power_on}
+use Rattle.gd_top.specs.Run.Openings.{Wanted, Done, Answer, Cleared, Reopening, unexplained, cleared, resolved, locked, of_another, recorded, record_entry, answered, answered_by, resumed, still_wanted, turned_on, turned_off, start_entry, started, opened_full, opened, made, make, locked_with, found_open, powered, reopen, power_on}
 use Rattle.gd_top.specs.Run.State.{Start, State, Flight, Nothing, Recording, Making, Phase, On, Off, Locked, Outcome, Goes, Stops, Differs, Breaks, Part, prints, goes_on, with_entry}
 use Rattle.gd_top.specs.Claims.NothingLost.{NothingLost}
 use Rattle.gd_top.specs.Claims.OneHistory.{BeginsEmpty}
@@ -93,6 +93,9 @@ module _ {V : Type 0} (M : Machine V) where
 
   other_view : (v : V) (s : State V) → Stays s (unexplained v s)
   other_view v s = (omega arith, omega arith, (λ views laps. absurd (omega (arith, views))), (λ views. absurd (omega (arith, views))))
+
+  another_setup : (s : State V) → Stays s (of_another s)
+  another_setup s = (omega arith, omega arith, (λ views laps. absurd (omega (arith, views))), (λ views. absurd (omega (arith, views))))
 
   one_lap : (s : State V) → Stays s (cleared M s)
   one_lap s = (omega arith, omega arith, (λ views laps. absurd (omega (arith, laps))), (λ views. inr refl))
@@ -168,7 +171,7 @@ module _ {V : Type 0} (M : Machine V) where
 
   found_stays : (B : Blocks) (again : Reopening V) → Keeps again → (sp : Spelled V) (f : Found) (fl : Flight) (w : Wanted) (s : State V) → Stays s (found_open M B again sp f fl w s).state
   found_stays B again K Unreadable f fl w s = and_then s (locked fl s) (locked_with M again w (locked fl s)).state (of_same s (locked fl s) (refl, refl, refl, refl)) (locked_stays again K w (locked fl s))
-  found_stays B again K (Foreign kept) f fl w s = of_same s (counted 0 s) (refl, refl, refl, refl)
+  found_stays B again K (Foreign kept) f fl w s = another_setup s
   found_stays B again K (Shows v) f fl w s =
       let u = resolved M fl v (turned_on s) in
       and_then s u (opened M B again (repair_needed f) w u).state (resolved_stays fl v (turned_on s)) (opened_stays B again K (repair_needed f) w u)

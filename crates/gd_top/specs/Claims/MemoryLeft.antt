@@ -13,8 +13,8 @@ use Rattle.gd_top.specs.Run.State.{State, is_powered, Flight, Nothing, Recording
 abbrev pub first_syncs : ℕ
 first_syncs = 5
 
--- where no image that was found is forged, each opening that found a view found one that the order of writing explains, and each
--- lock has its reason
+-- where no image that was found is forged, each opening that found a view found one that the order of writing explains, none found a
+-- memory of another setup, and each lock has its reason
 abbrev pub IsExplained : {V : Type 0} → State V → Type 0
 IsExplained s = s.forged ≡ 0 → (s.other_views ≡ 0) × (s.other_locks ≡ 0)
 

@@ -61,6 +61,6 @@ pub record ImageReports : Type 0 where
   pub off_refused : Gives (over_image (off ∷ []) (both 2 (view 2 500 1 1))) (codes "power 1: a sound 2, b sound 2\nstart at 3\nline 1\n") Status.ScriptFault (plain 1 0)
   pub other_count : Gives (over_image [] (both 2 once)) (codes "power 1: a sound 2, b sound 2\nlocked\nend locked\n") Status.Locked (record (plain 1 0) { other_locks = 1 })
   pub other_setup : Gives (over_image (bill 500 ∷ []) foreign)
-      (codes "power 1: a sound 2, b sound 2\ndiffers kept 00ab given 0000000000000000000000000000000000000000000000000000000000000000\n") Status.SetupDiffers (plain 1 0)
+      (codes "power 1: a sound 2, b sound 2\ndiffers kept 00ab given 0000000000000000000000000000000000000000000000000000000000000000\n") Status.SetupDiffers (record (plain 1 0) { other_views = 1 })
   pub full : Gives (over_image (bill 500 ∷ Some (Item.As 7 (Event.Bill 500)) ∷ []) (both 68719476736 (view 68719476736 500 7 1)))
       (codes "power 1: a sound 68719476736, b sound 68719476736\nfull bill\nagain bill 7 taken at 68719476736\nend at 68719476736 credit 500\n") Status.Done (plain 1 0)

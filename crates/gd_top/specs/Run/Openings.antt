@@ -64,6 +64,10 @@ abbrev pub locked : {V : Type 0} → Flight → State V → State V
 locked flight s =
     record (counted 0 s) { phase = Locked; masks = []; other_locks = if may_lock flight s.masks then s.other_locks else s.other_locks + 1 }
 
+-- The memory found was made under another setup, and so no order of writing explains it. This opening without a sync is an offer too.
+abbrev pub of_another : {V : Type 0} → State V → State V
+of_another s = record (counted 0 s) { other_views = s.other_views + 1 }
+
 -- the power is on, and the copies were read: what was altered before ends here
 abbrev pub turned_on : {V : Type 0} → State V → State V
 turned_on s = record s { phase = On; masks = [] }
@@ -154,7 +158,7 @@ locked_with M again Cleared s = make M again s
 -- the copies were read: the memory is locked, it was made under another setup, or it shows a view
 abbrev pub found_open : {V : Type 0} → Machine V → Blocks → Reopening V → Spelled V → Found → Flight → Wanted → State V → Part V
 found_open M blocks again Unreadable found flight wanted s = before locked_line (locked_with M again wanted (locked flight s))
-found_open M blocks again (Foreign kept) found flight wanted s = ends Differs (differs_line kept M.digest) (counted 0 s)
+found_open M blocks again (Foreign kept) found flight wanted s = ends Differs (differs_line kept M.digest) (of_another s)
 found_open M blocks again (Shows v) found flight wanted s = opened M blocks again (repair_needed found) wanted (resolved M flight v (turned_on s))
 
 -- one power-on more, which takes its start: an image that is forged is counted

@@ -52,7 +52,7 @@ pub record State (V : Type 0) : Type 0 where
   pub fell : ℕ  -- how many of them a cut came in
   pub masks : List Mask  -- what was altered since a line turned the power off, the newest first, until the copies are read
   pub forged : ℕ  -- images found in which an altered copy's seal still matches
-  pub other_views : ℕ  -- openings that found a view which no order of writing explains
+  pub other_views : ℕ  -- openings that found a view which no order of writing explains, one of another setup among them
   pub other_locks : ℕ  -- openings that were locked though not both copies had been altered, nor a clearing cut
   pub flight : Flight  -- where the run was broken off: what was being done
   pub falls : List ℕ  -- the offers, still to come, in which a cut that counts calls comes
