@@ -11,3 +11,4 @@ pub mod Cuts
 pub mod OffersAt
 pub mod Resolved
 pub mod Handed
+pub mod Calm

@@ -5,3 +5,4 @@ pub mod Openings
 pub mod Items
 pub mod Life
 pub mod Starts
+pub mod Calm
