@@ -1,4 +1,4 @@
-"""Computes the masks of crates/gd_rows/src/masks.rt from the formats of docs/FORMATS.md, and prints that file.
+"""Computes the masks of crates/gd_cut_rows/src/masks.rt from the formats of docs/FORMATS.md, and prints that file.
 
 A mask makes of one sound copy another that is sealed as well: each is a place in the copy, and what the byte there is
 combined with. It shares no code with the program: what it knows is what the formats say.

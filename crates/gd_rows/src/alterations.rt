@@ -1,8 +1,8 @@
 //! Alterations of a closed memory of which one copy stays sound, and those that no power-on has found yet.
 
-use crate::left::{Altered, Left, SHUT, SOUND_1, expect, expect_whole, push_words};
-use crate::runs::{lines, report, zeros};
-use crate::trials::three_scatters;
+use gd_runs::draws::three_scatters;
+use gd_runs::left::{Altered, Left, SHUT, SOUND_1, expect, expect_whole, push_words};
+use gd_runs::runs::{lines, report, zeros};
 use gd_store::{CopyState, Found, Why};
 use gd_top::Status;
 use std::test::Fail;

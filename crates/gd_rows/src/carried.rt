@@ -1,13 +1,13 @@
 //! Trials over a core that is handed in, under the built-in setup and under others.
 
-use crate::left::{Altered, Left, ROOM, expect, expect_left, push_words};
 use crate::plays::royal_flush;
-use crate::runs::{lines, report, zeros};
-use crate::trials::three_scatters;
 use gd_base::{Draws, ListDraws, MemorySink, MemorySource, Setup, Text, push_number};
 use gd_disk::{DISK_LEN, MemoryLab};
 use gd_games::{built_in, read_setup};
 use gd_image::Platform;
+use gd_runs::draws::three_scatters;
+use gd_runs::left::{Altered, Left, ROOM, expect, expect_left, push_words};
+use gd_runs::runs::{lines, report, zeros};
 use gd_store::Room;
 use gd_top::{Status, carry};
 use std::alloc::Global;

@@ -1,35 +1,20 @@
 //! The lock that two altered copies lead to, and the clearing of a locked memory.
 
-use crate::left::{Altered, Left, ROOM, SHUT, SOUND_0, SOUND_1, expect, expect_left, expect_whole};
-use crate::runs::{lines, report, trial_with_draws, zeros};
-use crate::trials::three_scatters;
 use gd_base::{ChaChaDraws, Draws, MemorySource};
 use gd_disk::{DISK_LEN, LabDisk, MemoryLab};
-use gd_store::{CopyState, Found, Why};
+use gd_runs::draws::three_scatters;
+use gd_runs::left::{
+    Altered, Left, ROOM, SHUT, SOUND_0, SOUND_1, expect, expect_left, expect_whole,
+};
+use gd_runs::locks::{LOCK, LOCK_REPORT, LOST};
+use gd_runs::runs::{lines, report, trial_with_draws, zeros};
+use gd_store::{CopyState, Found};
 use gd_top::Status;
 use std::alloc::Global;
 use std::process::Abort;
 use std::test::Fail;
 
 // ================ the lock
-
-/// Lines that lock the memory.
-pub(crate) const LOCK: &[&str] = &["off", "alter a 0 255", "alter b 9000 1", "on"];
-
-/// What they print as the first lines of a script.
-pub(crate) const LOCK_REPORT: &[&str] = &[
-    "off",
-    "altered a 0",
-    "altered b 9000",
-    "power 2: a shut, b page 15",
-    "locked",
-];
-
-/// The copies that they leave.
-pub(crate) const LOST: Found = Found {
-    a: SHUT,
-    b: CopyState::Bad(Why::BadPage(15)),
-};
 
 /// Runs a trial that locks the memory with its first lines.
 fn expect_under_lock<W: Draws + Drop>(

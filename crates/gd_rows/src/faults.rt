@@ -1,10 +1,10 @@
 //! Faults of the sink and of the disk at each place of a script that repeats an event over a loss of power, and of the disk in
 //! a repair.
 
-use crate::left::{Left, expect_left};
-use crate::runs::{Run, are_sound, lines, report, trial};
 use gd_base::MemorySource;
 use gd_disk::{DISK_LEN, LabDisk, MemoryLab};
+use gd_runs::left::{Left, expect_left};
+use gd_runs::runs::{Run, are_sound, lines, report, trial};
 use gd_store::{CopyState, Found, Why};
 use gd_top::Status;
 use std::alloc::Global;

@@ -1,4 +1,4 @@
-//! Worked rows that cross crates, as tests: whole trials of the program, with what they leave on the disk.
+//! Worked rows that cross crates, as tests: whole trials in which no cut of the power comes, with what they leave on the disk.
 #![tactic(auto)]
 
 #[cfg(test)]
@@ -8,23 +8,7 @@ mod carried;
 #[cfg(test)]
 mod clearings;
 #[cfg(test)]
-mod cut_limits;
-#[cfg(test)]
-mod cut_makings;
-#[cfg(test)]
-mod cut_starts;
-#[cfg(test)]
-mod cuts;
-#[cfg(test)]
 mod faults;
-#[cfg(test)]
-mod forgeries;
-#[cfg(test)]
-mod inputs;
-#[cfg(test)]
-mod left;
-#[cfg(test)]
-mod masks;
 #[cfg(test)]
 mod money;
 #[cfg(test)]
@@ -35,7 +19,5 @@ mod plays;
 mod refusals;
 #[cfg(test)]
 mod repeats;
-#[cfg(test)]
-mod runs;
 #[cfg(test)]
 mod trials;

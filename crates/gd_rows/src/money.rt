@@ -1,7 +1,7 @@
 //! Money in through the whole program, up to its limits, and repeats of each device.
 
-use crate::left::{Altered, Left, expect};
-use crate::runs::zeros;
+use gd_runs::left::{Altered, Left, expect};
+use gd_runs::runs::zeros;
 use gd_top::Status;
 use std::test::Fail;
 

@@ -1,11 +1,10 @@
 //! Plays of both games through the whole program: words that were drawn, choices, gamble turns, and the recall of them.
 
-use crate::left::{Altered, Left, expect};
-use crate::runs::zeros;
-use crate::trials::three_scatters;
 use gd_base::{Block, ListDraws};
+use gd_runs::draws::three_scatters;
+use gd_runs::left::{Altered, Left, expect};
+use gd_runs::runs::zeros;
 use gd_top::Status;
-use std::alloc::Global;
 use std::test::Fail;
 
 /// A block of zeros.
@@ -31,26 +30,6 @@ const PICK_SURVIVES_POWER_CUT: Altered = Altered {
 fn pick_survives_power_cut(rt: HostRuntime) -> Result<(), Fail> {
     let draws = three_scatters(rt.alloc())?;
     expect(&rt, rt.alloc(), draws, &PICK_SURVIVES_POWER_CUT)
-}
-
-/// A play that was cut before a copy had it is drawn anew. Block 1 is passed over.
-#[rattlefmt::skip]
-const CUT_IN_A_PLAY: Altered = Altered {
-    script: &[
-        "bill 500", "cut sync 2 0", "play reels 1", "show recall",
-    ],
-    status: Status::Done,
-    report: &[
-        "ack bill 1 taken at 2", "armed", "power 2: a shut, b sound 2", "start at 3 repaired a", "ack player 1 taken at 4",
-        "recall 1", "play 1 block 2 reels bet 1 wager 5", "window WSAFC AFDCF BEBEB", "win 0 before 500 after 495",
-        "end at 4 credit 495",
-    ],
-    left: Left::Sound(4),
-};
-
-#[test]
-fn cut_in_a_play(rt: HostRuntime) -> Result<(), Fail> {
-    expect(&rt, rt.alloc(), zeros(rt.alloc()), &CUT_IN_A_PLAY)
 }
 
 /// The ace below the two: 50 for each of 5 credits, which are 1,250 cents.

@@ -1,9 +1,9 @@
 //! Which input is refused, and where, through the whole program.
 
-use crate::inputs::{EmptyLines, Pieces};
-use crate::runs::{are_sound, report, trial};
 use gd_base::MemorySource;
 use gd_disk::{DISK_LEN, MemoryLab};
+use gd_runs::inputs::{EmptyLines, Pieces};
+use gd_runs::runs::{are_sound, report, trial};
 use gd_top::Status;
 use std::alloc::Global;
 use std::process::Abort;

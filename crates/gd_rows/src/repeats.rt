@@ -1,7 +1,8 @@
 //! Repeats of an event, numbers out of step, and devices of which nothing was taken, through the whole program.
 
-use crate::runs::zeros;
-use crate::trials::{Trial, expect, three_scatters};
+use crate::trials::{Trial, expect};
+use gd_runs::draws::three_scatters;
+use gd_runs::runs::zeros;
 use gd_top::Status;
 use std::test::Fail;
 

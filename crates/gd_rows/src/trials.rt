@@ -1,8 +1,9 @@
 //! What no clause says: that a run with ample memory meets no want of it, and the reports as the formats have them.
 
-use crate::runs::{are_sound, lines, report, trial, trial_with_draws, zeros};
-use gd_base::{Block, ChaChaDraws, Draws, ListDraws, MemorySource};
+use gd_base::{ChaChaDraws, Draws, MemorySource};
 use gd_disk::{DISK_LEN, LabDisk, MemoryLab};
+use gd_runs::draws::three_scatters;
+use gd_runs::runs::{are_sound, lines, report, trial, trial_with_draws, zeros};
 use gd_top::Status;
 use std::alloc::Global;
 use std::process::Abort;
@@ -106,16 +107,6 @@ fn power_cut_at_rest(rt: HostRuntime) -> Result<(), Fail> {
         entries: Some(3),
     };
     expect(&rt, rt.alloc(), zeros(rt.alloc()), &wanted)
-}
-
-/// A block of zeros, and one by which the reels show three scatters and the prizes 2, 4, 6, 10 and 20 are turned by
-/// two.
-pub(crate) fn three_scatters(alloc: Global) -> Result<ListDraws, Fail> {
-    let mut words: Block = [0; 16];
-    words[0] = 0x3800_0000_0000_0000;
-    words[2] = 0x6800_0000_0000_0000;
-    words[10] = 0x6666_6666_6666_6667;
-    Ok(ListDraws::of(vec![in alloc; [0; 16], words]?))
 }
 
 /// A draw stands through a power loss before its pick. Behind door 2 is 10 times 9 credits, which are 450 cents.

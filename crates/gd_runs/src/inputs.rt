@@ -12,9 +12,11 @@ const PIECE_LEN: usize = 16;
 
 /// Bytes in memory in pieces of at most `most`. It doesn't tell what is left.
 #[derive(Drop)]
-pub(crate) struct Pieces {
-    pub(crate) bytes: MemorySource,
-    pub(crate) most: usize,
+pub struct Pieces {
+    /// The bytes that are given.
+    pub bytes: MemorySource,
+    /// The most bytes of a piece.
+    pub most: usize,
 }
 
 impl Source for Pieces {
@@ -33,8 +35,9 @@ impl Source for Pieces {
 
 /// So many empty lines. It doesn't tell what is left.
 #[derive(Drop)]
-pub(crate) struct EmptyLines {
-    pub(crate) lines: usize,
+pub struct EmptyLines {
+    /// How many lines are still to come.
+    pub lines: usize,
 }
 
 impl Source for EmptyLines {

@@ -1,11 +1,11 @@
 //! The limit of power-ons, cuts among them, and a long script.
 
-use crate::clearings::{LOCK, LOST};
 use crate::cuts::{Cut, expect_cuts};
-use crate::left::{Left, ROOM, SOUND_1, expect_left, push_words};
-use crate::runs::{lines, report, trial, zeros};
 use gd_base::{MemorySource, Text, push_number};
 use gd_disk::{DISK_LEN, LabDisk, MemoryLab};
+use gd_runs::left::{Left, ROOM, SOUND_1, expect_left, push_words};
+use gd_runs::locks::{LOCK, LOST};
+use gd_runs::runs::{lines, report, trial, zeros};
 use gd_store::{CopyState, Found};
 use gd_top::Status;
 use std::alloc::Global;

@@ -15,15 +15,19 @@ const OPENING: [&str; 2] = ["power 1: a sound 0, b sound 0", "start at 1"];
 
 /// How a trial went.
 #[derive(Drop)]
-pub(crate) struct Run<L> {
-    pub(crate) status: Status,
-    pub(crate) falls: Falls,
-    pub(crate) output: MemorySink,
-    pub(crate) lab: L,
+pub struct Run<L> {
+    /// What the run ended with.
+    pub status: Status,
+    /// The offers in which cuts came that count calls.
+    pub falls: Falls,
+    /// The report as it was written.
+    pub output: MemorySink,
+    /// The laboratory as it was left.
+    pub lab: L,
 }
 
 /// Runs the program over a laboratory, with room for as many bytes of output. Each block is of zeros.
-pub(crate) fn trial<S: Source + Drop, L: LabDisk + Drop>(
+pub fn trial<S: Source + Drop, L: LabDisk + Drop>(
     alloc: Global,
     words: &[&str],
     script: S,
@@ -39,7 +43,7 @@ pub(crate) fn trial<S: Source + Drop, L: LabDisk + Drop>(
 }
 
 /// The same with the blocks of these draws.
-pub(crate) fn trial_with_draws<S: Source + Drop, L: LabDisk + Drop, W: Draws + Drop>(
+pub fn trial_with_draws<S: Source + Drop, L: LabDisk + Drop, W: Draws + Drop>(
     alloc: Global,
     words: &[&str],
     mut script: S,
@@ -74,12 +78,12 @@ pub(crate) fn trial_with_draws<S: Source + Drop, L: LabDisk + Drop, W: Draws + D
 }
 
 /// Draws of which each block is of zeros.
-pub(crate) fn zeros(alloc: Global) -> ListDraws {
+pub fn zeros(alloc: Global) -> ListDraws {
     ListDraws::of(Vec::new(alloc))
 }
 
 /// Both copies are sound at this count.
-pub(crate) fn are_sound<L: LabDisk + Drop>(
+pub fn are_sound<L: LabDisk + Drop>(
     rt: &impl Abort,
     alloc: Global,
     mut lab: L,
@@ -101,14 +105,14 @@ pub(crate) fn are_sound<L: LabDisk + Drop>(
 }
 
 /// These lines, each with its LF.
-pub(crate) fn lines(alloc: Global, lines: &[&str]) -> Result<Vec<u8>, Fail> {
+pub fn lines(alloc: Global, lines: &[&str]) -> Result<Vec<u8>, Fail> {
     let mut bytes = Vec::new(alloc);
     push_lines(&mut bytes, lines)?;
     Ok(bytes)
 }
 
 /// The report of these lines behind those of the opening.
-pub(crate) fn report(alloc: Global, lines: &[&str]) -> Result<Vec<u8>, Fail> {
+pub fn report(alloc: Global, lines: &[&str]) -> Result<Vec<u8>, Fail> {
     let mut bytes = Vec::new(alloc);
     push_lines(&mut bytes, &OPENING)?;
     push_lines(&mut bytes, lines)?;

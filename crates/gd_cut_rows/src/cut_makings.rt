@@ -1,12 +1,12 @@
 //! Cuts of the power in the making of an empty memory in place of a locked one.
 
-use crate::clearings::{LOCK, LOCK_REPORT};
 use crate::cuts::{Cut, expect_cuts, scatters_in_block_2};
 use crate::forgeries::push_masks;
-use crate::left::{Left, push_words};
 use crate::masks::{EMPTIED, RICHER, UNBALANCED};
-use crate::runs::{lines, report};
 use gd_base::{ChaChaDraws, Draws};
+use gd_runs::left::{Left, push_words};
+use gd_runs::locks::{LOCK, LOCK_REPORT};
+use gd_runs::runs::{lines, report};
 use gd_top::Status;
 use std::alloc::Global;
 use std::process::Abort;

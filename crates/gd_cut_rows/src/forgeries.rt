@@ -1,14 +1,14 @@
 //! Copies that were altered and whose seal matches again.
 
 use crate::cuts::{Cut, expect_cuts};
-use crate::left::{Left, ROOM, SHUT, SOUND_2, expect_whole, push_words};
 use crate::masks::{
     EARLIER, FULL, LATER, MISCOUNTED, NEARLY_FULL, OTHER_SETUP, OTHER_UNBALANCED, RICHER,
     UNBALANCED, ZEROED,
 };
-use crate::runs::{lines, report, trial, zeros};
 use gd_base::MemorySource;
 use gd_disk::{DISK_LEN, LabDisk, MemoryLab};
+use gd_runs::left::{Left, ROOM, SHUT, SOUND_2, expect_whole, push_words};
+use gd_runs::runs::{lines, report, trial, zeros};
 use gd_store::{CopyState, Found};
 use gd_top::Status;
 use std::alloc::Global;

@@ -11,7 +11,7 @@ use std::test::Fail;
 
 /// What a trial leaves.
 #[derive(Clone, Copy, Debug, PartialEq, Eq, Drop)]
-pub(crate) enum Left {
+pub enum Left {
     /// The power on, and both copies sound at this count.
     Sound(u64),
     /// The power on over copies that are found so.
@@ -22,39 +22,43 @@ pub(crate) enum Left {
 
 /// A trial over a new memory.
 #[derive(Drop)]
-pub(crate) struct Altered<'a> {
+pub struct Altered<'a> {
     /// The lines of the script.
-    pub(crate) script: &'a [&'a str],
-    pub(crate) status: Status,
+    pub script: &'a [&'a str],
+    /// What the trial ends with.
+    pub status: Status,
     /// The lines of the report behind those of the opening.
-    pub(crate) report: &'a [&'a str],
-    pub(crate) left: Left,
+    pub report: &'a [&'a str],
+    /// What the trial leaves.
+    pub left: Left,
 }
 
 /// The most bytes of a report.
-pub(crate) const ROOM: usize = 40_000;
+pub const ROOM: usize = 40_000;
 
-pub(crate) const SHUT: CopyState = CopyState::Bad(Why::Shut);
+/// A copy whose gate is shut.
+pub const SHUT: CopyState = CopyState::Bad(Why::Shut);
 
 /// Both copies of a memory that was made.
-pub(crate) const SOUND_0: Found = Found {
+pub const SOUND_0: Found = Found {
     a: CopyState::Sound(0),
     b: CopyState::Sound(0),
 };
 
-/// Both copies sound at the count 1, and at the count 2.
-pub(crate) const SOUND_1: Found = Found {
+/// Both copies sound at the count 1.
+pub const SOUND_1: Found = Found {
     a: CopyState::Sound(1),
     b: CopyState::Sound(1),
 };
 
-pub(crate) const SOUND_2: Found = Found {
+/// Both copies sound at the count 2.
+pub const SOUND_2: Found = Found {
     a: CopyState::Sound(2),
     b: CopyState::Sound(2),
 };
 
 /// Runs a trial of this script with these draws: its status, its whole report and what it leaves are as wanted.
-pub(crate) fn expect_whole<W: Draws + Drop>(
+pub fn expect_whole<W: Draws + Drop>(
     rt: &impl Abort,
     alloc: Global,
     draws: W,
@@ -72,7 +76,7 @@ pub(crate) fn expect_whole<W: Draws + Drop>(
 }
 
 /// The same of a row.
-pub(crate) fn expect<W: Draws + Drop>(
+pub fn expect<W: Draws + Drop>(
     rt: &impl Abort,
     alloc: Global,
     draws: W,
@@ -92,7 +96,7 @@ pub(crate) fn expect<W: Draws + Drop>(
 }
 
 /// The laboratory is left so.
-pub(crate) fn expect_left<L: LabDisk + Drop>(
+pub fn expect_left<L: LabDisk + Drop>(
     rt: &impl Abort,
     alloc: Global,
     mut lab: L,
@@ -120,7 +124,7 @@ pub(crate) fn expect_left<L: LabDisk + Drop>(
 }
 
 /// The copies are found so.
-pub(crate) fn are_found<L: LabDisk + Drop>(
+fn are_found<L: LabDisk + Drop>(
     rt: &impl Abort,
     alloc: Global,
     mut lab: L,
@@ -140,7 +144,7 @@ pub(crate) fn are_found<L: LabDisk + Drop>(
 }
 
 /// Appends words.
-pub(crate) fn push_words(bytes: &mut Vec<u8>, words: &[&str]) -> Result<(), Fail> {
+pub fn push_words(bytes: &mut Vec<u8>, words: &[&str]) -> Result<(), Fail> {
     for word in words {
         bytes.extend_from_slice(word.as_bytes())?;
     }

@@ -1,11 +1,11 @@
 //! Cuts of the power in an event: what is found, what is printed, and in which offers cuts came that count calls.
 
-use crate::clearings::{LOCK, LOCK_REPORT, LOST};
-use crate::left::{Left, ROOM, SOUND_2, expect_left, push_words};
-use crate::runs::{lines, report, trial_with_draws, zeros};
-use crate::trials::three_scatters;
-use gd_base::{Block, Draws, ListDraws, MemorySource};
+use gd_base::{Draws, ListDraws, MemorySource};
 use gd_disk::{DISK_LEN, LabDisk, MemoryLab};
+use gd_runs::draws::{scatters, three_scatters};
+use gd_runs::left::{Left, ROOM, SOUND_2, expect_left, push_words};
+use gd_runs::locks::{LOCK, LOCK_REPORT, LOST};
+use gd_runs::runs::{lines, report, trial_with_draws, zeros};
 use gd_top::Status;
 use std::alloc::Global;
 use std::process::Abort;
@@ -242,11 +242,7 @@ fn bill_under_cut(alloc: Global, call: usize, kind: usize) -> Result<Vec<u8>, Fa
 
 /// Two blocks of zeros, and the one of three scatters behind them.
 pub(crate) fn scatters_in_block_2(alloc: Global) -> Result<ListDraws, Fail> {
-    let mut words: Block = [0; 16];
-    words[0] = 0x3800_0000_0000_0000;
-    words[2] = 0x6800_0000_0000_0000;
-    words[10] = 0x6666_6666_6666_6667;
-    Ok(ListDraws::of(vec![in alloc; [0; 16], [0; 16], words]?))
+    Ok(ListDraws::of(vec![in alloc; [0; 16], [0; 16], scatters()]?))
 }
 
 #[rattlefmt::skip]
@@ -273,6 +269,21 @@ fn blocks_of_a_play_under_a_cut(rt: HostRuntime) -> Result<(), Fail> {
     let second = scatters_in_block_2(rt.alloc())?;
     expect(&rt, rt.alloc(), second, &PLAY_ON_BLOCK_2)?;
     expect(&rt, rt.alloc(), three_scatters(rt.alloc())?, &PLAY_KEPT)
+}
+
+#[rattlefmt::skip]
+const CUT_IN_A_PLAY: Cut = Cut {
+    script: &["bill 500", "cut sync 2 0", "play reels 1", "show recall"],
+    report: &["ack bill 1 taken at 2", "armed", "power 2: a shut, b sound 2", "start at 3 repaired a", "ack player 1 taken at 4",
+        "recall 1", "play 1 block 2 reels bet 1 wager 5", "window WSAFC AFDCF BEBEB", "win 0 before 500 after 495",
+        "end at 4 credit 495"],
+    status: Status::Done, left: Left::Sound(4), falls: &[], armed: 0,
+};
+
+/// A play that was cut before a copy had it is drawn anew. Block 1 is passed over.
+#[test]
+fn cut_in_a_play(rt: HostRuntime) -> Result<(), Fail> {
+    expect(&rt, rt.alloc(), zeros(rt.alloc()), &CUT_IN_A_PLAY)
 }
 
 // ================ cuts that stay armed

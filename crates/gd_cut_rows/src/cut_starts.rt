@@ -1,8 +1,8 @@
 //! Cuts of the power in openings: in the start, in a repair, and over several offers.
 
 use crate::cuts::{Cut, expect_cuts, expect_each};
-use crate::left::{Left, push_words};
-use crate::runs::{report, zeros};
+use gd_runs::left::{Left, push_words};
+use gd_runs::runs::{report, zeros};
 use gd_top::Status;
 use std::test::Fail;
 
