@@ -9,3 +9,4 @@ mod EventLines
 mod ItemLines
 mod TextOfWords
 mod WholeLines
+pub mod GeneratedItems

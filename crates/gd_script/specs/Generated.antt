@@ -1,5 +1,6 @@
 -- The items of a soak run, each by the run's seed and the item's place, from 0.
-use Rattle.std.specs.Prelude.{ℕ, ◌+◌, ◌*◌, ◌/◌, ◌%◌, ◌^◌, ◌==◌, nat_le, if◌then◌else◌, [], ◌∷◌, slice_index, bit_xor, None}
+use Rattle.std.specs.Prelude.{ℕ, ◌+◌, ◌*◌, ◌/◌, ◌%◌, ◌^◌, ◌==◌, nat_le, Bool, true, false, not, if◌then◌else◌, List, [], ◌∷◌, map, slice_index, bit_xor, None}
+use Rattle.std.specs.List.{range_with_len}
 use Rattle.gd_base.specs.declared.condition.Door.{Door}
 use Rattle.gd_base.specs.declared.condition.Tilt.{Tilt}
 use Rattle.gd_base.specs.declared.event.Event.{Event}
@@ -69,3 +70,25 @@ generated seed k =
     let word = random_word seed k in
     if k % 500 == 250 then cut_by (word / 32)
     else item_by_kind k (word % 32) (word / 32)
+
+-- the first n items of a run
+abbrev pub items_generated : (seed n : ℕ) → List Item
+items_generated seed n = map (generated seed) (range_with_len 0 n)
+
+-- ================ what comes among them
+
+-- the power came back: no line of a script says it
+abbrev pub is_start : Event → Bool
+is_start Event.Start = true
+is_start _ = false
+
+-- an event that a line can say, under its device's next number, an event of an order, or a cut
+abbrev pub is_soak_item : Item → Bool
+is_soak_item (Item.Event event) = not (is_start event)
+is_soak_item (Item.OrderEvent kind order) = true
+is_soak_item (Item.Cut unit count torn) = true
+is_soak_item _ = false
+
+-- so many of the first n items are cuts
+abbrev pub cuts_generated : ℕ → ℕ
+cuts_generated n = (n + 249) / 500
