@@ -12,7 +12,7 @@ pub use cabinet::{Cabinet, Parts};
 use gd_base::{MOST_ENTRIES, PAYLOAD_LEN};
 use gd_disk::{PAGE_COUNT, PAGE_LEN};
 use gd_store::MOST_SEQUENCE;
-pub use opening::{CabinetOpened, Locked};
+pub use opening::{CabinetOpened, Locked, load_at};
 pub use submitting::{Answer, Stop};
 
 // A core's payload is the pages of a copy, and its count of entries the copy's sequence.

@@ -267,8 +267,9 @@ impl<C: Core, D: Disk, W: Draws> Cabinet<C, D, W> {
     }
 }
 
-/// Loads a payload, whose view counts only where it has this many entries.
-pub(crate) fn load_at<C: Core>(core: &mut C, payload: &[u8], sequence: u64) -> Loaded
+/// Loads a payload that was booted at this sequence. A view is read only where it has as many entries; after any other answer than
+/// Read the core is as after `clear`.
+pub fn load_at<C: Core>(core: &mut C, payload: &[u8], sequence: u64) -> Loaded
     requires { length payload.now ≡ PAYLOAD_LEN }
     ensures answer { result ≡ load_answer (at_sequence (C.meaning core.old) sequence
         ((C.meaning core.old).spelled payload.now)) }

@@ -4,4 +4,8 @@ mod ScriptLemmas
 mod ItemLemmas
 mod LineLemmas
 mod TrialLemmas
+mod SetupLemmas
+mod ImageLemmas
+mod ProgramLemmas
+mod SoakLemmas
 mod ExampleLemmas

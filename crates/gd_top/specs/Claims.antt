@@ -1,6 +1,11 @@
 -- What the public calls claim.
 pub mod AllRules
+pub mod Images
 pub mod MemoryLeft
-pub mod OneHistory
 pub mod NothingLost
+pub mod OneHistory
+pub mod Program
+pub mod Refusals
+pub mod Setups
+pub mod Soak
 pub mod Trial

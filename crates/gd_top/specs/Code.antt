@@ -1,6 +1,8 @@
 -- Words for the code: how a run stands, what a part of the code did, and what a trial is at a moment.
-pub mod Standing
-pub mod Parts
-pub mod Memory
-pub mod LinesDone
 pub mod Falls
+pub mod LinesDone
+pub mod Memory
+pub mod Named
+pub mod Parts
+pub mod SoakDone
+pub mod Standing

@@ -1,3 +1,9 @@
 //! The commands of the program.
 
+pub(crate) mod check;
+pub(crate) mod init;
+pub(crate) mod refusal;
+pub(crate) mod setup;
+pub(crate) mod show;
+pub(crate) mod soak;
 pub(crate) mod trial;

@@ -16,6 +16,7 @@ mod top_call;
 
 pub use core_call::carry;
 pub use ended::{Carried, Ended, Falls};
+pub use gd_words::read_words;
 pub use laws::{all_rules_kept, example_reports, nothing_lost, one_legal_history};
 pub use program::run_program;
 pub use status::Status;

@@ -1,32 +1,39 @@
-//! The program: one trial of the command line's words, over standard input and standard output.
+//! The program: the command of the command line's words, over standard input, standard output and the files that the words name.
 
-ghost use Rattle.std.specs.Prelude.{◌≡◌, ◌⊎◌, false, IfOk, IsErr, drop, map};
-ghost use Rattle.std.specs.Io.KnownBytes.{Appends};
+ghost use Rattle.std.specs.Prelude.{◌≡◌, ◌⊎◌, IfOk, IsErr, drop, map, option_map};
 ghost use Rattle.std.specs.Process.{exit_status};
 ghost use Rattle.std.specs.String.{string_bytes};
-ghost use Rattle.gd_machine.specs.Meaning.{the_machine};
 ghost use Rattle.gd_base.specs.Outside.Causes.{Rose};
 ghost use Rattle.gd_base.specs.Outside.KeyStream.{seeded_block};
-ghost use Rattle.gd_base.specs.Setups.BuiltIn.{built_in_setup};
 ghost use Rattle.gd_disk.specs.Memory.{lab_state};
+ghost use Rattle.gd_disk.specs.declared.lengths.TheConstants.{DISK_LEN};
+ghost use Rattle.gd_top.specs.Claims.Program.{asked, world, IsCarriedOut, IsRefused};
+ghost use Rattle.gd_top.specs.Claims.Refusals.{refusal_text};
+ghost use Rattle.gd_top.specs.Claims.Trial.{GivesLast};
+ghost use Rattle.gd_top.specs.Code.Named.{seed_named};
 ghost use Rattle.gd_top.specs.Report.StatusNumber.{status_number};
-ghost use Rattle.gd_top.specs.Claims.Trial.{is_trial, no_memory_text, outer, usage_text, GivesLast, WroteReport};
+ghost use Rattle.gd_words.specs.CommandLine.{texts};
 
+mod files;
+
+use crate::command::refusal::Refusal;
 use crate::ended::Ended;
+use crate::report::telling::tell;
 use crate::status::Status;
 use crate::top_call::cabinet;
-use gd_base::{ChaChaDraws, Draws, MemorySource, Reading, Sink, Source, Writing};
-use gd_disk::{DISK_LEN, MemoryDisk, MemoryLab};
+use files::{SetupFile, image_disk};
+use gd_base::{ChaChaDraws, Draws, Reading, Sink, Source, Text, Writing};
+use gd_disk::{DISK_LEN, Disk, MemoryLab};
+use gd_words::{DEFAULT_SEED, Words, WordsError, read_words};
 use std::alloc::{AllocError, Global};
 use std::env::{self, Env};
+use std::fs::File;
 use std::io::{self, ErrorKind, Input};
 use std::process::ExitCode;
-
-/// The seed of the random words.
-const SEED: u64 = 1;
+use std::rt::Files;
 
 /// The whole program. A `main` calls it, and does nothing else.
-pub fn run_program<R: Env + Input + Print + AllocGlobal>(rt: &R) -> ExitCode {
+pub fn run_program<R: Env + Input + Print + AllocGlobal + Files<File = File>>(rt: &R) -> ExitCode {
     let mut output = Writing::new(io::writer(rt));
     match run(rt, &mut output) {
         Ok(status) => exit_code(status),
@@ -44,27 +51,57 @@ fn exit_code(status: Status) -> ExitCode
 /// Tells that there is no memory for the parts that `cabinet` is handed. Nothing was made.
 fn give_no_memory<K: Sink>(output: &mut K) -> Status
     ensures given { GivesLast Status.OutOfMemory result (K.taken output.old)
-        (K.taken output.new) no_memory_text }
+        (K.taken output.new) (refusal_text Refusal.OutOfMemory) }
     ensures cause { (result ≡ Status.OutOfMemory)
-        ⊎ Rose (K.faults output.old) (K.faults output.new) }
+        ⊎ ((result ≡ Status.WriteFault) × Rose (K.faults output.old) (K.faults output.new)) }
 {
-    match output.give(b"no memory\n") {
-        Ok(()) => Status::OutOfMemory,
-        Err(_) => Status::WriteFault,
-    }
+    let mut text = Text::new();
+    Refusal::OutOfMemory.write_line(&mut text);
+    tell(Status::OutOfMemory, output, &text)
 }
 
-/// Carries out the words of the command line over standard input.
-fn run<R: Env + Input + AllocGlobal, K: Sink>(
+/// Opens what the words name, and carries them out over standard input.
+fn run<R: Env + Input + AllocGlobal + Files<File = File>, K: Sink>(
     rt: &R,
     output: &mut K,
 ) -> Result<Status, AllocError> {
     let alloc = rt.alloc();
-    let words = all_words(rt)?;
-    let texts = as_texts(alloc, &words)?;
+    let all = all_words(rt)?;
+    let texts = as_texts(alloc, &all)?;
+    let words = behind_name(&texts);
+    let said = said_words(alloc, words)?;
+    let mut setup = SetupFile::of(rt, said.as_ref());
+    let disk = image_disk(rt, said.as_ref());
     let mut input = Reading::new(rt.reader());
-    let ended = carry_out(alloc, &texts, &mut input, output)?;
+    let ended = carry_out(
+        alloc,
+        words,
+        &mut input,
+        &mut setup,
+        output,
+        disk,
+        seed_of(said.as_ref()),
+    )?;
     Ok(ended.status)
+}
+
+/// What the words say, where they are in a row of the commands.
+fn said_words(alloc: Global, words: &[&str]) -> Result<Option<Words>, AllocError> {
+    match read_words(alloc, words) {
+        Ok(said) => Ok(Some(said)),
+        Err(WordsError::Usage) => Ok(None),
+        Err(WordsError::OutOfMemory) => Err(AllocError),
+    }
+}
+
+/// The seed of the random words.
+fn seed_of(said: Option<&Words>) -> u64
+    ensures { result ≡ seed_named (option_map (λ w. w.now) said.entry) }
+{
+    match said {
+        Some(said) => said.seed,
+        None => DEFAULT_SEED,
+    }
 }
 
 /// All words of the command line, the program's own name first. Words that aren't text are in no row of the commands,
@@ -108,58 +145,43 @@ fn behind_name<'a, 'b>(all: &'a [&'b str]) -> &'a [&'b str]
     }
 }
 
-/// The random words of the program.
-fn first_draws() -> ChaChaDraws
-    ensures blocks { ⟦<ChaChaDraws as Draws>⟧.block_of result ≡ seeded_block 1 }
+/// The random words of a seed.
+fn seeded_draws(seed: u64) -> ChaChaDraws
+    ensures blocks { ⟦<ChaChaDraws as Draws>⟧.block_of result ≡ seeded_block seed }
 {
-    ChaChaDraws::new(SEED)
+    ChaChaDraws::new(seed)
 }
 
-/// Calls `cabinet` with the words behind the program's own name, over a new laboratory and the random words of the seed 1.
-/// At Err there was no memory for these, and nothing was made.
-fn carry_out<S: Source, K: Sink>(
+/// Calls `cabinet` over a new laboratory and the random words of the seed. At Err there was no memory for the laboratory, and
+/// nothing was made.
+fn carry_out<S: Source, C: Source, K: Sink, D: Disk + Drop>(
     alloc: Global,
-    all: &[&str],
+    words: &[&str],
     input: &mut S,
+    setup: &mut C,
     output: &mut K,
-) -> Result<Ended<MemoryLab, MemoryDisk, ChaChaDraws>, AllocError>
-    ensures done { IfOk result (λ ended. ended.status ≡ Status.Done → (lab : MemoryLab)
-        × WroteReport (the_machine built_in_setup) (seeded_block 1) Status.Done ended.falls.items
-        (outer S.left S.faults K.taken K.faults lab_state input.old output.old lab)
-        (outer S.left S.faults K.taken K.faults lab_state input.new output.new ended.lab)) }
-    ensures locked { IfOk result (λ ended. ended.status ≡ Status.Locked → (lab : MemoryLab)
-        × WroteReport (the_machine built_in_setup) (seeded_block 1) Status.Locked ended.falls.items
-        (outer S.left S.faults K.taken K.faults lab_state input.old output.old lab)
-        (outer S.left S.faults K.taken K.faults lab_state input.new output.new ended.lab)) }
-    ensures script_fault { IfOk result (λ ended. ended.status ≡ Status.ScriptFault → (lab : MemoryLab)
-        × WroteReport (the_machine built_in_setup) (seeded_block 1) Status.ScriptFault
-        ended.falls.items
-        (outer S.left S.faults K.taken K.faults lab_state input.old output.old lab)
-        (outer S.left S.faults K.taken K.faults lab_state input.new output.new ended.lab)) }
-    ensures differs { IfOk result (λ ended. ended.status ≡ Status.SetupDiffers → (lab : MemoryLab)
-        × WroteReport (the_machine built_in_setup) (seeded_block 1) Status.SetupDiffers
-        ended.falls.items
-        (outer S.left S.faults K.taken K.faults lab_state input.old output.old lab)
-        (outer S.left S.faults K.taken K.faults lab_state input.new output.new ended.lab)) }
-    ensures usage { IfOk result (λ ended. ended.status ≡ Status.Usage
-        → (is_trial (drop 1 all.now) ≡ false) × Appends (K.taken output.old)
-        (K.taken output.new) usage_text) }
-    ensures refused { IfOk result (λ ended. is_trial (drop 1 all.now) ≡ false
-        → (ended.status ≡ Status.Usage) ⊎ (ended.status ≡ Status.WriteFault)) }
+    disk: D,
+    seed: u64,
+) -> Result<Ended<MemoryLab, D, ChaChaDraws>, AllocError>
+    requires size { (D.state disk).size ≡ DISK_LEN }
+    ensures done { IfOk result (λ ended. (lab : MemoryLab) × (IsRefused (asked (texts words.now)) ended.status
+        (world C.left C.faults S.left S.faults K.taken K.faults lab_state D.state setup.old input.old output.old lab disk)
+        (world C.left C.faults S.left S.faults K.taken K.faults lab_state D.state setup.new input.new output.new ended.lab ended.disk)
+        ⊎ IsCarriedOut (asked (texts words.now)) (seeded_block seed) ended.status ended.falls.items
+        (world C.left C.faults S.left S.faults K.taken K.faults lab_state D.state setup.old input.old output.old lab disk)
+        (world C.left C.faults S.left S.faults K.taken K.faults lab_state D.state setup.new input.new output.new ended.lab ended.disk))) }
     ensures unmade { IsErr result
         → (K.taken output.new ≡ K.taken output.old) × (K.faults output.new ≡ K.faults output.old) }
 {
-    let mut setup = MemorySource::of(Vec::new(alloc), None);
     let lab = MemoryLab::new(alloc, DISK_LEN)?;
-    let disk = MemoryDisk::of(vec![in alloc; 0; DISK_LEN as usize]?, None);
     Ok(cabinet(
         alloc,
-        behind_name(all),
+        words,
         input,
-        &mut setup,
+        setup,
         output,
         lab,
         disk,
-        first_draws(),
+        seeded_draws(seed),
     ))
 }

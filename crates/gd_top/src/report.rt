@@ -1,5 +1,7 @@
 //! The report.
 
+pub(crate) mod dropped;
 pub(crate) mod lines;
+pub(crate) mod telling;
 #[cfg(test)]
 mod tests;

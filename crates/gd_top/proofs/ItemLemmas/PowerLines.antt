@@ -6,13 +6,14 @@ use Rattle.gd_base.specs.declared.step.What.{What}
 use Rattle.gd_base.specs.Judging.Machine.{Machine, Blocks}
 use Rattle.gd_disk.specs.declared.disk.ArmedCut.{ArmedCut}
 use Rattle.gd_disk.specs.declared.side.Side.{Side}
+use Rattle.gd_script.specs.Items.{is_cut}
 use Rattle.gd_script.specs.declared.item.Item.{Item}
 use Rattle.gd_script.specs.declared.item.OrderWord.{OrderWord}
 use Rattle.gd_store.specs.Masks.{Mask}
 use Rattle.gd_top.specs.Code.Standing.{Standing, Later, at}
 use Rattle.gd_top.specs.Run.Items.{item_meaning}
 use Rattle.gd_top.specs.Report.Lines.{altered_line, locked_line}
-use Rattle.gd_top.specs.Script.Kinds.{is_comment, is_cut, needs_memory}
+use Rattle.gd_top.specs.Script.Kinds.{is_comment, needs_memory}
 use Rattle.gd_top.specs.Run.State.{Off, Stops, prints, ends}
 use Rattle.gd_top.specs.declared.memory.TheConstants.{MOST_POWER_ONS}
 use Rattle.gd_top.proofs.RunLemmas.Equations.{on_is, off_is, cut_is, alter_is, clear_is}

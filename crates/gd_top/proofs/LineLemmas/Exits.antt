@@ -60,7 +60,7 @@ module _ {V : Type 0} (M : Machine V) (B : Blocks) where
   one_line l s = goes_on_nothing (line_meaning M B l s)
 
   -- some lines, and then one more, however it ended
-  line_then : (r : Result (Unit {0}) Halt) (a b c : Standing V) (u v w : Outside) (disk : DiskState) (lines : List (Option Item)) (l : Option Item)
+  pub line_then : (r : Result (Unit {0}) Halt) (a b c : Standing V) (u v w : Outside) (disk : DiskState) (lines : List (Option Item)) (l : Option Item)
       → Carries M (lines_meaning M B lines) Goes a b u v → CarriesBy r M (line_meaning M B l) b c v w disk → CarriesBy r M (lines_meaning M B (lines ++ l ∷ [])) a c u w disk
   line_then r a b c u v w disk lines l k q =
       as_at M r (λ s. followed_by (lines_meaning M B lines s) (λ s. lines_meaning M B (l ∷ []) s)) (lines_meaning M B (lines ++ l ∷ [])) a c u w disk

@@ -34,7 +34,7 @@ module _ {V : Type 0} where
   SoFar was now left rest = (s : Standing V) → Fits s was
       → (t : Standing V) × Fits t now × LinesSoFar was.machine (lines_meaning was.machine was.blocks) s t (outside was) (outside now) left rest
 
-  err_line : (r : Result (Unit {0}) Halt) (s : Standing V) → is_err r ≡ true → after_line r s ≡ s
+  pub err_line : (r : Result (Unit {0}) Halt) (s : Standing V) → is_err r ≡ true → after_line r s ≡ s
   err_line (Ok done) s e = absurd (cc e)
   err_line (Err halt) s e = refl
 

@@ -24,7 +24,7 @@ use Rattle.gd_top.specs.Run.Offers.{Fate, Whole, Fell, Broke, Offer, is_head, un
 use Rattle.gd_top.specs.Run.Openings.{Wanted, Done, Answer, Cleared, Reopening, unexplained, resolved, may_lock, locked, recorded, answered, answered_by, resumed, still_wanted, turned_on, start_entry, started, opened_full, opened, locked_with, found_open, powered, reopen, power_on}
 use Rattle.gd_top.specs.Run.State.{Start, State, Flight, Nothing, Recording, Making, Phase, On, Off, Locked, Part, is_powered, prints, breaks, before, with_entry}
 
-choose : {A : Type 0} (P : A → Type 0) (b : Bool) (x y : A) → (b ≡ true → P x) → (b ≡ false → P y) → P (if b then x else y)
+pub choose : {A : Type 0} (P : A → Type 0) (b : Bool) (x y : A) → (b ≡ true → P x) → (b ≡ false → P y) → P (if b then x else y)
 choose P true x y f g = f refl
 choose P false x y f g = g refl
 

@@ -1,8 +1,8 @@
 -- Why a status came, and what a command did by its status.
-use Rattle.std.proofs.Common.{◌≡◌, ◌⊎◌, inl, inr, ◌∙◌, ap, sym, refl, ◌≤◌, ℕ, true, List, arith, Result, Ok, Err}
+use Rattle.std.proofs.Common.{◌≡◌, ◌⊎◌, inl, inr, ◌∙◌, ap, sym, refl, ◌≤◌, ℕ, List, arith, Result, Ok, Err}
 use Rattle.gd_base.specs.Outside.Causes.{Rose}
 use Rattle.gd_base.specs.Judging.Machine.{Machine, Blocks}
-use Rattle.gd_top.specs.Claims.Trial.{Outer, CabinetDone, CarriesAsTold, HasCauses, IsEnd, TrialDone, WroteReport, status_after}
+use Rattle.gd_top.specs.Claims.Trial.{Outer, CarriesAsTold, HasCauses, IsEnd, TrialDone, WroteReport, status_after}
 use Rattle.gd_top.specs.Run.Life.{status_of}
 use Rattle.gd_top.specs.Run.State.{Part, Phase, On, Off, Locked}
 use Rattle.gd_top.specs.declared.halt.Halt.{Halt}
@@ -40,17 +40,6 @@ module _ (status : Status) (was now : Outer) where
       record { read = λ e. absurd (cc (is, e)); write = λ e. risen was.write_faults faults now.write_faults (write refl) later; disk = λ e. absurd (cc (is, e)) }
 
 module _ {V : Type 0} (M : Machine V) (B : Blocks) (falls : List ℕ) (was now : Outer) where
-  -- a trial, as what a command did
-  pub carried_done : (status : Status) → TrialDone M B status falls was now → CabinetDone M B true status falls was now
-  carried_done Status.Done h = (refl, h)
-  carried_done Status.ScriptFault h = (refl, h)
-  carried_done Status.Locked h = (refl, h)
-  carried_done Status.SetupDiffers h = (refl, h)
-  carried_done Status.ReadFault h = (refl, h)
-  carried_done Status.DiskFault h = (refl, h)
-  carried_done Status.WriteFault h = inr h
-  carried_done _ h = absurd h
-
   -- where no count rose, it ends as the definition says
   ended_so : (status : Status) → IsEnd status → WroteReport M B status falls was now → CarriesAsTold M B status falls was now
   ended_so status end h = (end, h.script, h.of_source, sym h.ended ∙ ap (λ (t : Part V). status_of t.outcome t.state) h.is_run)

@@ -8,7 +8,7 @@ use Rattle.gd_disk.specs.Disk.{DiskState}
 use Rattle.gd_disk.specs.Runs.{CutsLeft}
 use Rattle.gd_disk.specs.declared.disk.ArmedCut.{ArmedCut}
 use Rattle.gd_script.specs.declared.item.Item.{Item}
-use Rattle.gd_top.specs.Code.LinesDone.{DoneBy, LinesDone, RunBy, RunDone, ScriptOf, made_outside}
+use Rattle.gd_top.specs.Code.LinesDone.{DoneBy, IsFailedMaking, LinesDone, RunBy, RunDone, ScriptOf, made_outside}
 use Rattle.gd_top.specs.Code.Falls.{AreCalls, AreWaiting, counts_calls}
 use Rattle.gd_top.specs.Code.Memory.{Moment, FitsDown, IsDown, IsFresh, IsMade, IsUnmade, Leaves, OpensTo, Reopens, Serves, as_opened, begun, outside, stands_with}
 use Rattle.gd_top.specs.Code.Parts.{Outside, Carries, CarriesBy, Pending}
@@ -98,7 +98,7 @@ stands_as M B Off powered a b u v h = absurd (cc powered)
 stands_as M B Locked powered a b u v h = h
 
 -- an opening that ended the run
-stands_in_none : {V : Type 0} (r : Result (Unit {0}) Halt) (s : Standing V) (was now : Moment V) → is_err r ≡ true → OpensTo (as_opened r) Nothing Done s was now → Serves r → ⊥
+pub stands_in_none : {V : Type 0} (r : Result (Unit {0}) Halt) (s : Standing V) (was now : Moment V) → is_err r ≡ true → OpensTo (as_opened r) Nothing Done s was now → Serves r → ⊥
 stands_in_none (Ok done) s was now err q serves = absurd (cc err)
 stands_in_none (Err Halt.ScriptFault) s was now err q serves = q
 stands_in_none (Err Halt.ReadFault) s was now err q serves = q
@@ -106,7 +106,7 @@ stands_in_none (Err Halt.DiskFault) s was now err q serves = serves
 stands_in_none (Err Halt.WriteFault) s was now err q serves = serves
 stands_in_none (Err Halt.SetupDiffers) s was now err q serves = serves
 
-ends_by : {V : Type 0} (r : Result (Unit {0}) Halt) (s : Standing V) (was now : Moment V) → is_err r ≡ true → OpensTo (as_opened r) Nothing Done s was now
+pub ends_by : {V : Type 0} (r : Result (Unit {0}) Halt) (s : Standing V) (was now : Moment V) → is_err r ≡ true → OpensTo (as_opened r) Nothing Done s was now
     → (t : Standing V) × CarriesBy r was.machine (power_on was.machine was.blocks Nothing Done) s t (outside was) (outside now) now.disk
 ends_by (Ok done) s was now err q = absurd (cc err)
 ends_by (Err Halt.ScriptFault) s was now err q = absurd q
@@ -244,15 +244,18 @@ module _ {V : Type 0} (was made : Moment V) (unarmed : was.disk.armed ≡ []) (m
     abbrev faulted : IsFaulted syncs_of_making was.disk made.disk
     faulted = faulted_by h.failed
 
-    pub unmade_done : was.disk.found ≡ [] → made.taken ≡ was.taken → (left rest : Option (List ℕ)) → RunDone (Err Halt.DiskFault) was made left rest
-    unmade_done found printed left rest = inl (record {
+    pub unmade_failed : was.disk.found ≡ [] → made.taken ≡ was.taken → IsFailedMaking (Err Halt.DiskFault) was made
+    unmade_failed found printed = record {
       fault = refl;
       found = h.found ∙ found;
       syncs = h.fewer;
       armed = cuts_left faulted.done was.disk.armed made.disk.armed unarmed faulted.left;
       falls = fresh.falls;
       printed = printed;
-    })
+    }
+
+    pub unmade_done : was.disk.found ≡ [] → made.taken ≡ was.taken → (left rest : Option (List ℕ)) → RunDone (Err Halt.DiskFault) was made left rest
+    unmade_done found printed left rest = inl (unmade_failed found printed)
 
     pub unmade_leaves : ((lap index : ℕ) → made.blocks lap index ≡ was.blocks lap index) → made.faults ≡ was.faults → Leaves (Err Halt.DiskFault) was made
     unmade_leaves blocks faults = record {

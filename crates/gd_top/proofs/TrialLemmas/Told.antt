@@ -66,7 +66,7 @@ module _ {V : Type 0} (was now : Moment V) (left rest gave : Option (List ℕ)) 
         subst (λ (phase : Phase). IsLeftIn M phase t.view t.masks now.disk) (sym fits.phase)
         (subst (λ (O : Machine V). IsLeftIn O now.phase t.view t.masks now.disk) same fits.holds)
 
-    is_left : IsLeft M (at t (only [] [] None)) now.disk
+    pub is_left : IsLeft M (at t (only [] [] None)) now.disk
     is_left = record { power = sits.power ∙ ap is_powered (sym fits.phase); holds = holds; at_rest = subst (λ (phase : Phase). IsAtRest phase now.disk) (sym fits.phase) rested }
 
     end_is : end_line now.machine now.phase now.view ≡ end_line M t.phase t.view

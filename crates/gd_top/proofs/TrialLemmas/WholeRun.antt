@@ -57,27 +57,27 @@ module _ {V : Type 0} (M : Machine V) (B : Blocks) where
   opening_alone : (s : State V) → run_meaning M B [] s ≡ power_on M B Nothing Done s
   opening_alone s = goes_on_nothing (power_on M B Nothing Done s)
 
-  legal_at : (run : Part V) (lines : List (Option Item)) (falls : List ℕ) (starts : List (Start V)) (ends_at : Option ℕ) → run ≡ trial_meaning M B lines falls starts ends_at → HasLegalHistory M B run.state
+  pub legal_at : (run : Part V) (lines : List (Option Item)) (falls : List ℕ) (starts : List (Start V)) (ends_at : Option ℕ) → run ≡ trial_meaning M B lines falls starts ends_at → HasLegalHistory M B run.state
   legal_at run lines falls starts ends_at is = subst (λ (t : Part V). HasLegalHistory M B t.state) (sym is) (one_legal_history M B lines falls starts ends_at)
 
-  abbrev first : Standing V
+  abbrev pub first : Standing V
   first = first_standing M
 
   -- `mid` is what the sink had taken before the last line of the report, and `falls` are those that are given back
   module _ (was now : Outer) (mid : Option (List ℕ)) (falls : List ℕ) where
-    abbrev made : Outside
+    abbrev pub made : Outside
     made = record { found = []; taken = was.taken; falls = []; syncs = was.disk.syncs + first_syncs }
 
-    abbrev ended : Outside
+    abbrev pub ended : Outside
     ended = record { found = now.disk.found; taken = mid; falls = falls; syncs = now.disk.syncs }
 
     -- ================ lines that were carried out
 
     module _ (o : Outcome) (lines : List (Option Item)) (t : Standing V) (k : Carries M (run_meaning M B lines) o first t made ended) where
-      abbrev run : Part V
+      abbrev pub run : Part V
       run = record { report = k.report; state = at t (only [] [] None); outcome = o }
 
-      run_is : run ≡ trial_meaning M B lines falls (starts_in M now.disk.found) None
+      pub run_is : run ≡ trial_meaning M B lines falls (starts_in M now.disk.found) None
       run_is =
           nothing_behind k.report (at t (only [] [] None)) o
           ∙ sym (k.tells (only [] [] None) (ends_nowhere t.offers) tt)
@@ -85,7 +85,7 @@ module _ {V : Type 0} (M : Machine V) (B : Blocks) where
           ∙ ap (λ (fs : List ℕ). trial_meaning M B lines fs (starts_in M k.since) None) (append-nil k.fell ∙ sym k.fallen)
           ∙ ap (λ (images : List (List ℕ)). trial_meaning M B lines falls (starts_in M images) None) (sym k.listed)
 
-      whole : AreArmed t.armed now.disk.armed → (t.forged ≡ 0 → (t.other_views ≡ 0) × (t.other_locks ≡ 0)) → IsLeftAfter M o (at t (only [] [] None)) now.disk → IsWhole M B run was now
+      pub whole : AreArmed t.armed now.disk.armed → (t.forged ≡ 0 → (t.other_views ≡ 0) × (t.other_locks ≡ 0)) → IsLeftAfter M o (at t (only [] [] None)) now.disk → IsWhole M B run was now
       whole armed explained left = record {
         legal = legal_at run lines falls (starts_in M now.disk.found) None run_is;
         used_up = (refl, refl);
@@ -174,7 +174,7 @@ module _ {V : Type 0} (M : Machine V) (B : Blocks) where
 
     -- ================ a run that ended in one of these lines
 
-    abbrev ending_first : (all lines : List (Option Item)) (k : Ending M (run_meaning M B lines) first made ended)
+    abbrev pub ending_first : (all lines : List (Option Item)) (k : Ending M (run_meaning M B lines) first made ended)
         → (others : List (Option Item)) × (all ≡ lines ++ others) → length now.disk.armed ≡ length k.end.state.armed → FirstLines M B all falls was now
     ending_first all lines k begins armed =
         let is : k.end ≡ trial_meaning M B lines falls k.found.used k.broken_at = sym k.tells ∙ ap (λ (fs : List ℕ). trial_meaning M B lines fs k.found.used k.broken_at) (sym k.fallen) in
@@ -275,15 +275,15 @@ module _ {V : Type 0} (M : Machine V) (B : Blocks) where
     -- ================ the making of the memory failed
 
     module _ (found : now.disk.found ≡ []) (few : now.disk.syncs < was.disk.syncs + first_syncs) (unarmed : now.disk.armed ≡ []) (printed : mid ≡ was.taken) (unfallen : falls ≡ []) where
-      abbrev unmade : Part V
+      abbrev pub unmade : Part V
       unmade = ends Breaks [] (at first (only [] [] None))
 
-      unmade_is : unmade ≡ trial_meaning M B [] falls [] None
+      pub unmade_is : unmade ≡ trial_meaning M B [] falls [] None
       unmade_is =
           sym (ap (λ (t : Part V). followed_by t (λ u. lines_meaning M B [] u)) (no_start M B Nothing Done (at first (only [] [] None))))
           ∙ ap (λ (fs : List ℕ). trial_meaning M B [] fs [] None) (sym unfallen)
 
-      abbrev unmade_first : (all : List (Option Item)) → FirstLines M B all falls was now
+      abbrev pub unmade_first : (all : List (Option Item)) → FirstLines M B all falls was now
       unmade_first all = record {
         lines = [];
         begins = (all, refl);

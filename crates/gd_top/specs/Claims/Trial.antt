@@ -1,9 +1,7 @@
 -- What a whole trial wrote and left, by its status. Each fact speaks of what is told, on one side, and on the other of what the
 -- sink took, of what the laboratory found and counted, and of the images that may be found.
-use Rattle.std.specs.Prelude.{◌≡◌, ◌⊎◌, ◌≤◌, ◌<◌, ℕ, ◌+◌, Bool, true, false, List, [], ◌∷◌, ◌++◌, length, codes, decimal, Option, None, IfSome, Result, Ok, Err}
+use Rattle.std.specs.Prelude.{◌≡◌, ◌⊎◌, ◌≤◌, ◌<◌, ℕ, ◌+◌, List, [], ◌∷◌, ◌++◌, length, codes, decimal, Option, None, IfSome, Result, Ok, Err}
 use Rattle.std.specs.Io.KnownBytes.{Appends, Consumes, IsAtEnd}
-use Rattle.std.specs.Borrow.{Bor}
-use Rattle.std.specs.Str.{bytes_eq}
 use Rattle.gd_base.specs.Outside.Causes.{AppendsFront, Rose}
 use Rattle.gd_base.specs.Judging.Machine.{Machine, Blocks}
 use Rattle.gd_disk.specs.Disk.{DiskState}
@@ -172,56 +170,18 @@ abbrev pub GivesLast : (status result : Status) → (taken given : Option (List 
 GivesLast status result taken given text =
     ((result ≡ status) × Appends taken given text) ⊎ ((result ≡ Status.WriteFault) × AppendsFront taken given text)
 
--- ================ the whole program
-
--- The words are exactly `trial`.
-abbrev pub is_trial : List (Bor (List ℕ)) → Bool
-is_trial [] = false
-is_trial (word ∷ []) = bytes_eq word.now (codes "trial")
-is_trial (word ∷ other ∷ words) = false
-
-abbrev pub usage_text : List ℕ
-usage_text = codes "usage\n"
-
-abbrev pub no_memory_text : List ℕ
-no_memory_text = codes "no memory\n"
-
--- both statuses come before anything was made or read
-abbrev pub IsUnopened : Status → Type 0
-IsUnopened Status.Usage = Unit {0}
-IsUnopened Status.OutOfMemory = Unit {0}
-IsUnopened _ = ⊥
-
--- where a write failed: in the one line of a refused command, or in a report
-abbrev pub WroteFrontOf : {V : Type 0} → Machine V → Blocks → Bool → List ℕ → (was now : Outer) → Type 0
-WroteFrontOf M B true falls was now = AppendsFront was.taken now.taken no_memory_text ⊎ WroteFront M B falls was now
-WroteFrontOf M B false falls was now = AppendsFront was.taken now.taken usage_text
-
--- what a command did, by its status, the words being exactly `trial` or not
-abbrev pub CabinetDone : {V : Type 0} → Machine V → Blocks → (is_trial : Bool) → Status → List ℕ → (was now : Outer) → Type 0
-CabinetDone M B trial Status.Usage falls was now = (trial ≡ false) × Appends was.taken now.taken usage_text
-CabinetDone M B trial Status.OutOfMemory falls was now = (trial ≡ true) × Appends was.taken now.taken no_memory_text
-CabinetDone M B trial Status.WriteFault falls was now = WroteFrontOf M B trial falls was now
-CabinetDone M B trial status falls was now = (trial ≡ true) × TrialDone M B status falls was now
-
--- the statuses that can come so far
-abbrev pub IsBuilt : Status → Type 0
-IsBuilt Status.Done = Unit {0}
-IsBuilt Status.Usage = Unit {0}
-IsBuilt Status.ReadFault = Unit {0}
-IsBuilt Status.WriteFault = Unit {0}
-IsBuilt Status.DiskFault = Unit {0}
-IsBuilt Status.ScriptFault = Unit {0}
-IsBuilt Status.Locked = Unit {0}
-IsBuilt Status.OutOfMemory = Unit {0}
-IsBuilt Status.SetupDiffers = Unit {0}
-IsBuilt _ = ⊥
+-- ================ the statuses of a trial
 
 -- a call over a core that is there ends with one of these
 abbrev pub IsCarried : Status → Type 0
-IsCarried Status.Usage = ⊥
-IsCarried Status.OutOfMemory = ⊥
-IsCarried status = IsBuilt status
+IsCarried Status.Done = Unit {0}
+IsCarried Status.ReadFault = Unit {0}
+IsCarried Status.WriteFault = Unit {0}
+IsCarried Status.DiskFault = Unit {0}
+IsCarried Status.ScriptFault = Unit {0}
+IsCarried Status.Locked = Unit {0}
+IsCarried Status.SetupDiffers = Unit {0}
+IsCarried _ = ⊥
 
 -- a trial that no fault of the outside ended ends with one of these
 abbrev pub IsEnd : Status → Type 0
@@ -239,7 +199,3 @@ status_meant M B script falls disk = let run = trial_meaning M B (script_of scri
 abbrev pub CarriesAsTold : {V : Type 0} → Machine V → Blocks → Status → List ℕ → (was now : Outer) → Type 0
 CarriesAsTold M B status falls was now =
     IsEnd status × (script : List ℕ) × IfSome was.left (λ bytes. bytes ≡ script) × (status ≡ status_meant M B script falls now.disk)
-
--- or want of memory
-abbrev pub EndsAsTold : {V : Type 0} → Machine V → Blocks → Status → List ℕ → (was now : Outer) → Type 0
-EndsAsTold M B status falls was now = (status ≡ Status.OutOfMemory) ⊎ CarriesAsTold M B status falls was now

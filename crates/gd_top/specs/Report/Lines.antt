@@ -74,3 +74,8 @@ hex bytes = flat_map (λ b. hex_digit (b / 16) ∷ hex_digit (b % 16) ∷ []) by
 
 abbrev pub differs_line : List ℕ → List ℕ → List ℕ
 differs_line kept given = codes "differs kept " ++ hex kept ++ codes " given " ++ hex given ++ codes "\n"
+
+-- the first line of a soak's summary: the items, the entries recorded, the power-ons, and the balance in cents
+abbrev pub totals_line : (items n power_ons credit : ℕ) → List ℕ
+totals_line items n power_ons credit =
+    codes "soak " ++ decimal items ++ codes " entries " ++ decimal n ++ codes " power " ++ decimal power_ons ++ codes " credit " ++ decimal credit ++ codes "\n"

@@ -1,5 +1,6 @@
 -- Items that alter nothing, and states and parts of a trial in which nothing is altered.
 use Rattle.std.specs.Prelude.{ℕ, ◌≡◌, ◌≤◌, ◌+◌, Bool, true, false, [], length}
+use Rattle.gd_script.specs.Items.{is_cut}
 use Rattle.gd_script.specs.declared.item.Item.{Item}
 use Rattle.gd_top.specs.Run.Items.{at_limit}
 use Rattle.gd_top.specs.Run.State.{State, Part, is_powered, Locked, Goes, Stops, Differs}
@@ -11,11 +12,6 @@ is_calm_item (Item.OrderEvent kind order) = true
 is_calm_item (Item.Cut unit count torn) = true
 is_calm_item _ = false
 
--- a cut that is armed
-abbrev pub is_cut_item : Item → Bool
-is_cut_item (Item.Cut unit count torn) = true
-is_cut_item _ = false
-
 -- how many cuts an item arms
 abbrev pub cuts_armed : Item → ℕ
 cuts_armed (Item.Cut unit count torn) = 1
@@ -23,7 +19,7 @@ cuts_armed _ = 0
 
 -- the one reason why such an item is a script fault: it is a cut, and no line may lead to a further power-on
 abbrev pub IsBeyondLimit : {V : Type 0} → Item → State V → Type 0
-IsBeyondLimit item s = (is_cut_item item ≡ true) × (at_limit s ≡ true)
+IsBeyondLimit item s = (is_cut item ≡ true) × (at_limit s ≡ true)
 
 -- a trial in which nothing was altered, and no image found was forged; where it is locked, a lock without a reason was counted
 pub record IsCalm {V : Type 0} (s : State V) : Type 0 where

@@ -7,6 +7,7 @@ use Rattle.gd_base.specs.Payloads.Spelled.{Shows}
 use Rattle.gd_script.specs.declared.item.Item.{Item}
 use Rattle.gd_store.specs.declared.copy.states.CopyState.{CopyState}
 use Rattle.gd_top.specs.declared.status.Status.{Status}
+use Rattle.gd_top.specs.Report.Lines.{totals_line}
 use Rattle.gd_top.specs.Run.Items.{lines_meaning}
 use Rattle.gd_top.specs.Run.Openings.{Done, power_on}
 use Rattle.gd_top.specs.Run.State.{Nothing, Start, State, Part, Phase, On, Off, Locked, Outcome, Goes, Stops, Differs, Breaks, followed_by, over}
@@ -89,8 +90,9 @@ report_of M t = t.report ++ last_line M t.outcome t.state
 abbrev pub report_at_read_fault : {V : Type 0} → Part V → List ℕ
 report_at_read_fault t = t.report ++ codes "read fault\n"
 
--- a soak prints its summary alone
+-- a soak prints its summary alone, of so many items and power-ons, over the view at the end
+abbrev pub soak_summary : {V : Type 0} → Machine V → (items power_ons : ℕ) → V → List ℕ
+soak_summary M items power_ons v = totals_line items (M.count v) power_ons (M.credit v) ++ M.text What.Meters v
+
 abbrev pub soak_line : {V : Type 0} → Machine V → ℕ → State V → List ℕ
-soak_line M items s =
-    codes "soak " ++ decimal items ++ codes " entries " ++ decimal (M.count s.view) ++ codes " power " ++ decimal s.power_ons
-    ++ codes " credit " ++ decimal (M.credit s.view) ++ codes "\n" ++ M.text What.Meters s.view
+soak_line M items s = soak_summary M items s.power_ons s.view

@@ -10,10 +10,6 @@ abbrev pub is_comment : Item → Bool
 is_comment Item.Skip = true
 is_comment _ = false
 
-abbrev pub is_cut : Item → Bool
-is_cut (Item.Cut unit count torn) = true
-is_cut _ = false
-
 -- an item about the machine
 abbrev pub needs_memory : Item → Bool
 needs_memory (Item.Event event) = true

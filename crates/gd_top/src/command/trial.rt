@@ -19,7 +19,8 @@ use crate::item::opening::reopen;
 use crate::memory::Memory;
 use crate::memory::counts::Counts;
 use crate::memory::making::make_memory;
-use crate::report::lines::{give_text, push_end_line, push_fault_line};
+use crate::report::lines::{push_end_line, push_fault_line};
+use crate::report::telling::tell;
 use crate::script::carrying::carry_lines;
 use crate::script::reader::MOST_LINES;
 use crate::status::Status;
@@ -118,10 +119,7 @@ fn end_report<K: Sink, L: LabDisk, W: Draws>(
         ⊎ ((result ≡ Status.WriteFault) × Rose (K.faults output.old) (K.faults output.new)) }
 {
     write_last(text, memory, lines, ended);
-    match give_text(output, text) {
-        Ok(()) => status_after(memory, ended),
-        Err(_) => Status::WriteFault,
-    }
+    tell(status_after(memory, ended), output, text)
 }
 
 /// Writes the last line of a report over what stands in `text`, or nothing where the sink failed or an opening told that the
@@ -192,7 +190,7 @@ fn push_end<L: LabDisk, W: Draws>(text: &mut Text, memory: &Memory<Platform, L, 
 }
 
 /// Gives the parts of a memory back.
-fn close<C: Core, L: LabDisk, W: Draws>(memory: Memory<C, L, W>) -> Parts<C, L, W>
+pub(crate) fn close<C: Core, L: LabDisk, W: Draws>(memory: Memory<C, L, W>) -> Parts<C, L, W>
     ensures disk { result.disk ≡ memory_disk memory }
     ensures draws { result.draws ≡ memory_draws memory }
     ensures at_rest { memory_stopped memory ≡ false → (memory_phase memory ≡ Off

@@ -55,7 +55,7 @@ pub(crate) fn make_memory<C: Core, L: LabDisk, W: Draws>(
 }
 
 /// Writes the core's view over the room's payload.
-fn fill<C: Core>(core: &C, room: &mut Room)
+pub(crate) fn fill<C: Core>(core: &C, room: &mut Room)
     ensures { (C.meaning core.now).spelled (room_payload room.new) ≡ Shows (C.view core.now) }
 {
     core.write_image(room.payload_mut());

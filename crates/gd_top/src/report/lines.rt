@@ -5,7 +5,7 @@ ghost use Rattle.arrayvec.specs.ArrayString.{array_string_len};
 ghost use Rattle.gd_store.specs.Repair.{repair_needed};
 ghost use Rattle.gd_base.specs.Outside.Causes.{Rose};
 ghost use Rattle.gd_top.specs.Code.Parts.{GivesText};
-ghost use Rattle.gd_top.specs.Report.Lines.{altered_line, answer_line, copy_text, differs_line, full_line, hex, hex_digit, locked_line, none_line, power_line, repair_text, side_name, start_line, step_line};
+ghost use Rattle.gd_top.specs.Report.Lines.{altered_line, answer_line, copy_text, differs_line, full_line, hex, hex_digit, locked_line, none_line, power_line, repair_text, side_name, start_line, step_line, totals_line};
 
 use crate::halt::Halt;
 use gd_base::{Device, Reply, Sink, TEXT_LEN, Text, push_count_line, push_number, push_reply};
@@ -40,7 +40,7 @@ pub(crate) fn push_power_line(text: &mut Text, k: u64, found: &Found)
 }
 
 /// Appends what a copy is found to be. At most 26 bytes.
-fn push_copy_state(text: &mut Text, state: CopyState)
+pub(crate) fn push_copy_state(text: &mut Text, state: CopyState)
     requires { array_string_len text.old + 26 ≤ TEXT_LEN }
     ensures bytes { text.new.bytes ≡ text.old.bytes ++ copy_text state }
     ensures room { array_string_len text.new ≤ array_string_len text.old + 26 }
@@ -248,4 +248,23 @@ pub(crate) fn push_fault_line(text: &mut Text, n: u64)
     ensures room { array_string_len text.new ≤ array_string_len text.old + 26 }
 {
     push_count_line(text, "line ", n);
+}
+
+/// Appends the first line of the summary of a soak of so many items: the entries recorded, the power-ons, and the balance in cents. At most 110
+/// bytes.
+pub(crate) fn push_totals_line(text: &mut Text, items: u64, n: u64, power_ons: u64, credit: u64)
+    requires { array_string_len text.old + 110 ≤ TEXT_LEN }
+    ensures bytes { text.new.bytes
+        ≡ text.old.bytes ++ totals_line items n power_ons credit }
+    ensures room { array_string_len text.new ≤ array_string_len text.old + 110 }
+{
+    text.push_str("soak ");
+    push_number(text, items);
+    text.push_str(" entries ");
+    push_number(text, n);
+    text.push_str(" power ");
+    push_number(text, power_ons);
+    text.push_str(" credit ");
+    push_number(text, credit);
+    text.push_str("\n");
 }

@@ -4,9 +4,10 @@ ghost use Rattle.std.specs.Prelude.{◌≡◌, ◌≢◌, ◌≤◌, ◌+◌, �
 ghost use Rattle.std.specs.Io.KnownBytes.{prepend_known};
 ghost use Rattle.gd_base.specs.Outside.Causes.{Rose};
 ghost use Rattle.gd_script.specs.Grammar.{InGrammar};
+ghost use Rattle.gd_script.specs.Items.{is_cut};
 ghost use Rattle.gd_top.specs.Code.LinesDone.{LinesDone};
 ghost use Rattle.gd_top.specs.Code.Memory.{moment, Does, Leaves, Sits};
-ghost use Rattle.gd_top.specs.Script.Kinds.{is_comment, is_cut, needs_memory};
+ghost use Rattle.gd_top.specs.Script.Kinds.{is_comment, needs_memory};
 ghost use Rattle.gd_top.specs.Run.Items.{item_meaning};
 ghost use Rattle.gd_top.specs.Script.LineTaken.{TakesEnd};
 ghost use Rattle.gd_top.specs.Script.Lines.{line_of};
@@ -92,7 +93,7 @@ fn expect_end<S: Source>(input: &mut S, ahead: &mut Ahead) -> Result<(), Halt>
 }
 
 /// Carries out an item.
-fn carry_item<C: Core, K: Sink, L: LabDisk, W: Draws>(
+pub(crate) fn carry_item<C: Core, K: Sink, L: LabDisk, W: Draws>(
     memory: Memory<C, L, W>,
     counts: &mut Counts,
     output: &mut K,

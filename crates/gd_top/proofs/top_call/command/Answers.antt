@@ -1,22 +1,34 @@
-use Rattle.std.proofs.Common.{◌≡◌, ◌∙◌, sym, subst, arith, Bool, true}
+use Rattle.std.proofs.Common.{sym, subst, ℕ, List}
 use Rattle.gd_image.specs.Words.{platform_setup}
 use Rattle.gd_machine.specs.Meaning.{the_machine}
-use Rattle.gd_base.specs.Setups.BuiltIn.{built_in_setup}
-use Rattle.gd_base.specs.declared.setup.Setup.{Setup}
-use Rattle.gd_top.specs.Claims.Trial.{is_trial, outer, CabinetDone}
-use Rattle.gd_top.proofs.TrialLemmas.Ends.{carried_done}
+use Rattle.gd_top.specs.Claims.Images.{ShowDid, Tells}
+use Rattle.gd_top.specs.Claims.Program.{CommandDone}
+use Rattle.gd_top.specs.Claims.Soak.{SoakDid}
+use Rattle.gd_top.specs.Claims.Trial.{outer}
+use Rattle.gd_top.specs.declared.status.Status.{Status}
+use Rattle.gd_words.specs.declared.words.Command.{Command}
 use Rattle.gd_top.proofs.top_call.command.Goals as goal
 
-pub returns-in-Ok-clause-done : goal.returns-in-Ok-clause-done
-returns-in-Ok-clause-done g c =
-    let run = c.run_trial-trial in
-    let M = the_machine built_in_setup in
-    let B = g.W.Draws.block_of c.args.draws in
-    let status = run.result.status in
-    let falls = run.result.falls.items in
+pub returns-in-Show-clause-done : goal.returns-in-Show-clause-done
+returns-in-Show-clause-done g c =
+    let M = the_machine (platform_setup c.args.core) in
     let was = outer g.S.Source.left g.S.Source.faults g.K.Sink.taken g.K.Sink.faults g.L.Disk.state c.args.input.now c.args.output.now c.args.lab in
-    let now = outer g.S.Source.left g.S.Source.faults g.K.Sink.taken g.K.Sink.faults g.L.Disk.state run.new.input run.new.output run.result.lab in
-    let is : is_trial c.args.words.now ≡ true = grind (arith, c.are_trial.ensures, c.if-not-are_trial.false) in
-    subst (λ (b : Bool). CabinetDone M B b status falls was now) (sym is)
-    (subst (λ (s : Setup). CabinetDone (the_machine s) B true status falls was now) (c.in-Ok.ensures.setup ∙ c.built_in.ensures)
-    (carried_done (the_machine (platform_setup c.in-Ok.core)) B falls was now status run.ensures.done))
+    let now = outer g.S.Source.left g.S.Source.faults g.K.Sink.taken g.K.Sink.faults g.L.Disk.state c.args.input.now c.show-status.new.output c.end_beside-in-Show.result.lab in
+    let old = g.D.Disk.state c.args.disk in
+    let new = g.D.Disk.state c.end_beside-in-Show.result.disk in
+    subst (λ (k : Command). CommandDone M (g.W.Draws.block_of c.args.draws) k c.end_beside-in-Show.result.status c.end_beside-in-Show.result.falls.items was now old new) (sym c.in-Show.is)
+    (subst (λ (s : Status). Tells (ShowDid M c.in-Show.what old new) s was.taken now.taken) (sym c.end_beside-in-Show.ensures.status)
+    (subst (λ (disk : _). Tells (ShowDid M c.in-Show.what old (g.D.Disk.state disk)) c.show-status.result was.taken now.taken) (sym c.end_beside-in-Show.ensures.disk) c.show-status.ensures.told))
+
+pub returns-in-Soak-clause-done : goal.returns-in-Soak-clause-done
+returns-in-Soak-clause-done g c =
+    let M = the_machine (platform_setup c.args.core) in
+    let B = g.W.Draws.block_of c.args.draws in
+    let ended = c.end_carried-in-Soak in
+    let was = outer g.S.Source.left g.S.Source.faults g.K.Sink.taken g.K.Sink.faults g.L.Disk.state c.args.input.now c.args.output.now c.args.lab in
+    let now = outer g.S.Source.left g.S.Source.faults g.K.Sink.taken g.K.Sink.faults g.L.Disk.state c.args.input.now c.run_soak.new.output ended.result.lab in
+    let old = g.L.Disk.state c.args.lab in
+    subst (λ (k : Command). CommandDone M B k ended.result.status ended.result.falls.items was now (g.D.Disk.state c.args.disk) (g.D.Disk.state ended.result.disk)) (sym c.in-Soak.is)
+    (subst (λ (s : Status). Tells (SoakDid M B c.in-Soak.count c.in-Soak.seed ended.result.falls.items old (g.L.Disk.state ended.result.lab)) s was.taken now.taken) (sym ended.ensures.status)
+    (subst (λ (falls : List ℕ). Tells (SoakDid M B c.in-Soak.count c.in-Soak.seed falls old (g.L.Disk.state ended.result.lab)) c.run_soak.result.status was.taken now.taken) (sym ended.ensures.falls)
+    (subst (λ (lab : _). Tells (SoakDid M B c.in-Soak.count c.in-Soak.seed c.run_soak.result.falls.items old (g.L.Disk.state lab)) c.run_soak.result.status was.taken now.taken) (sym ended.ensures.lab) c.run_soak.ensures.done)))

@@ -2,7 +2,7 @@ use Rattle.std.proofs.Common.{◌≡◌, refl, ℕ, false}
 use Rattle.gd_disk.specs.declared.disk.CutUnit.{CutUnit}
 use Rattle.gd_script.specs.declared.item.Item.{Item}
 use Rattle.gd_top.specs.Code.Memory.{moment}
-use Rattle.gd_top.specs.Script.Kinds.{is_cut}
+use Rattle.gd_script.specs.Items.{is_cut}
 use Rattle.gd_top.proofs.ItemLemmas.Lines.{item_by}
 use Rattle.gd_top.proofs.script.carrying.carry_item.Goals as goal
 
