@@ -15,3 +15,5 @@ mod evening;
 mod forgeries;
 #[cfg(test)]
 mod masks;
+#[cfg(test)]
+mod soaks;

@@ -10,6 +10,8 @@ mod clearings;
 #[cfg(test)]
 mod faults;
 #[cfg(test)]
+mod images;
+#[cfg(test)]
 mod money;
 #[cfg(test)]
 mod payouts;
