@@ -1,4 +1,4 @@
-//! Trials over a core that is handed in, under the built-in setup and under others.
+//! Trials under the built-in setup and under others, over a core that is handed in and by the option of the program.
 
 use crate::plays::royal_flush;
 use gd_base::{Draws, ListDraws, MemorySink, MemorySource, Setup, Text, push_number};
@@ -7,7 +7,7 @@ use gd_games::{built_in, read_setup};
 use gd_image::Platform;
 use gd_runs::draws::three_scatters;
 use gd_runs::left::{Altered, Left, ROOM, expect, expect_left, push_words};
-use gd_runs::runs::{lines, report, zeros};
+use gd_runs::runs::{lines, report, trial_with_setup, zeros};
 use gd_store::Room;
 use gd_top::{Status, carry};
 use std::alloc::Global;
@@ -207,6 +207,39 @@ fn royal_flush_and_handpay(rt: HostRuntime) -> Result<(), Fail> {
     let at = setup_of(alloc, "handpay_limit = 6250\n")?;
     expect_row(&rt, alloc, at, royal_flush_first(alloc)?, &HELD)?;
     expect_row(&rt, alloc, at, royal_flush_first(alloc)?, &PAID_BY_HAND)
+}
+
+// ================ by the option of the program
+
+/// The same of a row that the program carries out, under the setup of this file.
+fn expect_by_option<W: Draws + Drop>(
+    rt: &impl Abort,
+    alloc: Global,
+    file: &str,
+    draws: W,
+    wanted: &Altered,
+) -> Result<(), Fail> {
+    let setup = MemorySource::of(lines(alloc, &[file])?, None);
+    let script = MemorySource::of(lines(alloc, wanted.script)?, None);
+    let lab = MemoryLab::new(alloc, DISK_LEN)?;
+    let words = &["trial", "--setup", "file"];
+    let run = trial_with_setup(alloc, words, setup, script, ROOM, lab, draws)?;
+    assert_eq!(rt; run.status, wanted.status);
+    assert_eq!(rt;
+        run.output.bytes(),
+        report(alloc, wanted.report)?.as_slice()
+    );
+    expect_left(rt, alloc, run.lab, wanted.left)
+}
+
+#[test]
+fn setups_by_their_option(rt: HostRuntime) -> Result<(), Fail> {
+    let alloc = rt.alloc();
+    expect_by_option(&rt, alloc, OTHER_SETUP, three_scatters(alloc)?, &OTHER_ROW)?;
+    let above = "handpay_limit = 6251";
+    expect_by_option(&rt, alloc, above, royal_flush_first(alloc)?, &TAKEN)?;
+    let at = "handpay_limit = 6250";
+    expect_by_option(&rt, alloc, at, royal_flush_first(alloc)?, &PAID_BY_HAND)
 }
 
 // ================ a meter that rolls over

@@ -46,6 +46,25 @@ pub fn trial<S: Source + Drop, L: LabDisk + Drop>(
 pub fn trial_with_draws<S: Source + Drop, L: LabDisk + Drop, W: Draws + Drop>(
     alloc: Global,
     words: &[&str],
+    script: S,
+    room: usize,
+    lab: L,
+    draws: W,
+) -> Result<Run<L>, Fail>
+    requires size { (L.state lab).size ≡ DISK_LEN }
+    requires is_on { (L.state lab).is_on ≡ true }
+    requires armed { (L.state lab).armed ≡ [] }
+    requires found { (L.state lab).found ≡ [] }
+{
+    let no_file = MemorySource::of(Vec::new(alloc), None);
+    trial_with_setup(alloc, words, no_file, script, room, lab, draws)
+}
+
+/// The same with this file of a setup.
+pub fn trial_with_setup<S: Source + Drop, L: LabDisk + Drop, W: Draws + Drop>(
+    alloc: Global,
+    words: &[&str],
+    mut setup: MemorySource,
     mut script: S,
     room: usize,
     lab: L,
@@ -56,7 +75,6 @@ pub fn trial_with_draws<S: Source + Drop, L: LabDisk + Drop, W: Draws + Drop>(
     requires armed { (L.state lab).armed ≡ [] }
     requires found { (L.state lab).found ≡ [] }
 {
-    let mut setup = MemorySource::of(Vec::new(alloc), None);
     let mut output = MemorySink::with_room(alloc, room)?;
     let disk = MemoryDisk::of(vec![in alloc; 0; DISK_LEN as usize]?, None);
     let ended = cabinet(
