@@ -32,7 +32,7 @@ fn expect_end(
     assert_eq!(rt; run.status, status);
     assert_eq!(rt; run.lab.cuts_armed(), armed);
     assert!(rt; run.falls.as_slice().is_empty());
-    expect_left(rt, alloc, run.lab, left)
+    expect_left(alloc, run.lab, left)
 }
 
 /// These lines, and behind them so many cuts that aren't reached.

@@ -42,7 +42,7 @@ pub(crate) fn expect_cuts<W: Draws + Drop>(
     assert_eq!(rt; run.status, wanted.status);
     assert_eq!(rt; run.falls.as_slice(), wanted.falls);
     assert_eq!(rt; run.lab.cuts_armed(), wanted.armed);
-    expect_left(rt, alloc, run.lab, wanted.left)
+    expect_left(alloc, run.lab, wanted.left)
 }
 
 /// The same of a row.

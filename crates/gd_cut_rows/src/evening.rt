@@ -61,7 +61,6 @@ fn one_evening(rt: HostRuntime) -> Result<(), Fail> {
     push_words(&mut script, EVENING_END)?;
     let wanted = report(alloc, EVENING)?;
     expect_whole(
-        &rt,
         alloc,
         zeros(alloc),
         script,

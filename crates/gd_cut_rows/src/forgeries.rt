@@ -59,7 +59,7 @@ const LATER_COPIES: &[Forgery] = &[
 /// A forged copy of a later sequence is opened.
 #[test]
 fn a_forged_copy_of_a_later_sequence(rt: HostRuntime) -> Result<(), Fail> {
-    expect_each(&rt, rt.alloc(), LATER_COPIES)
+    expect_each(rt.alloc(), LATER_COPIES)
 }
 
 #[rattlefmt::skip]
@@ -89,7 +89,7 @@ const PASSED_OVER: &[Forgery] = &[
 /// A forged copy that is shut or of an earlier sequence is passed over.
 #[test]
 fn a_forged_copy_that_is_passed_over(rt: HostRuntime) -> Result<(), Fail> {
-    expect_each(&rt, rt.alloc(), PASSED_OVER)
+    expect_each(rt.alloc(), PASSED_OVER)
 }
 
 #[rattlefmt::skip]
@@ -106,7 +106,7 @@ const OTHER_VIEWS: &[Forgery] = &[
 /// A forged copy of the same sequence locks the memory.
 #[test]
 fn a_forged_copy_of_the_same_sequence(rt: HostRuntime) -> Result<(), Fail> {
-    expect_each(&rt, rt.alloc(), OTHER_VIEWS)
+    expect_each(rt.alloc(), OTHER_VIEWS)
 }
 
 #[rattlefmt::skip]
@@ -123,7 +123,7 @@ const IN_BOTH: &[Forgery] = &[
 /// A view that was forged in both copies is opened.
 #[test]
 fn both_copies_forged(rt: HostRuntime) -> Result<(), Fail> {
-    expect_each(&rt, rt.alloc(), IN_BOTH)
+    expect_each(rt.alloc(), IN_BOTH)
 }
 
 #[rattlefmt::skip]
@@ -154,7 +154,7 @@ const NO_VIEWS: &[Forgery] = &[
 /// A forged copy that shows no view locks the memory.
 #[test]
 fn a_forged_copy_of_no_view(rt: HostRuntime) -> Result<(), Fail> {
-    expect_each(&rt, rt.alloc(), NO_VIEWS)
+    expect_each(rt.alloc(), NO_VIEWS)
 }
 
 #[rattlefmt::skip]
@@ -179,7 +179,7 @@ const FULL_HISTORIES: &[Forgery] = &[
 /// A forged copy of a full history: no other trial comes to one.
 #[test]
 fn a_forged_full_history(rt: HostRuntime) -> Result<(), Fail> {
-    expect_each(&rt, rt.alloc(), FULL_HISTORIES)
+    expect_each(rt.alloc(), FULL_HISTORIES)
 }
 
 // ================ another setup
@@ -310,15 +310,15 @@ fn a_clearing_that_uncovers_another_setup(rt: HostRuntime) -> Result<(), Fail> {
 // ================ trials of forgeries
 
 /// Runs a trial of each of these forgeries.
-fn expect_each(rt: &impl Abort, alloc: Global, forgeries: &[Forgery]) -> Result<(), Fail> {
+fn expect_each(alloc: Global, forgeries: &[Forgery]) -> Result<(), Fail> {
     for forgery in forgeries {
-        expect_forged(rt, alloc, forgery)?;
+        expect_forged(alloc, forgery)?;
     }
     Ok(())
 }
 
 /// Runs a trial of a forgery.
-fn expect_forged(rt: &impl Abort, alloc: Global, forgery: &Forgery) -> Result<(), Fail> {
+fn expect_forged(alloc: Global, forgery: &Forgery) -> Result<(), Fail> {
     let mut script = lines(alloc, forgery.before)?;
     let mut wanted = report(alloc, forgery.printed)?;
     script.extend_from_slice(b"off\n")?;
@@ -333,7 +333,6 @@ fn expect_forged(rt: &impl Abort, alloc: Global, forgery: &Forgery) -> Result<()
     script.extend_from_slice(&lines(alloc, forgery.behind)?)?;
     wanted.extend_from_slice(&lines(alloc, forgery.report)?)?;
     expect_whole(
-        rt,
         alloc,
         zeros(alloc),
         script,

@@ -66,7 +66,7 @@ fn soak_summary(rt: HostRuntime) -> Result<(), Fail> {
         let run = soak(alloc, &["soak", "1000", "7"], ROOM, lab)?;
         assert_eq!(&rt; run.status, Status::Done);
         assert_eq!(&rt; run.output.bytes(), wanted.as_slice());
-        are_sound(&rt, alloc, run.lab, 1001)?;
+        are_sound(alloc, run.lab, 1001)?;
     }
     Ok(())
 }

@@ -22,7 +22,7 @@ fn one_page_altered(rt: HostRuntime) -> Result<(), Fail> {
         ],
         left: Left::Sound(2),
     };
-    expect(&rt, rt.alloc(), zeros(rt.alloc()), &wanted)
+    expect(rt.alloc(), zeros(rt.alloc()), &wanted)
 }
 
 /// Places of a copy, and what the copy is found to be where one bit there was altered: the gate, the name, the version, the
@@ -52,7 +52,6 @@ fn a_byte_of_each_part_altered(rt: HostRuntime) -> Result<(), Fail> {
             &["\nstart at 3 repaired b\nend at 3 credit 500\n"],
         )?;
         expect_whole(
-            &rt,
             alloc,
             zeros(alloc),
             script,
@@ -98,7 +97,7 @@ fn alterations_cancel(rt: HostRuntime) -> Result<(), Fail> {
         ],
         left: Left::Sound(3),
     };
-    expect(&rt, rt.alloc(), zeros(rt.alloc()), &wanted)
+    expect(rt.alloc(), zeros(rt.alloc()), &wanted)
 }
 
 /// What was altered ends where the copies are read: the same mask in the next off-period alters the repaired copy again.
@@ -120,7 +119,7 @@ fn altered_in_two_off_periods(rt: HostRuntime) -> Result<(), Fail> {
         ],
         left: Left::Sound(3),
     };
-    expect(&rt, rt.alloc(), zeros(rt.alloc()), &wanted)
+    expect(rt.alloc(), zeros(rt.alloc()), &wanted)
 }
 
 /// A win that waits for the player stands where copy a is altered in one off-period and copy b in the next.
@@ -168,7 +167,7 @@ fn altered_over_an_open_play(rt: HostRuntime) -> Result<(), Fail> {
         ],
         left: Left::Sound(7),
     };
-    expect(&rt, rt.alloc(), three_scatters(rt.alloc())?, &wanted)
+    expect(rt.alloc(), three_scatters(rt.alloc())?, &wanted)
 }
 
 /// The script ends with the power off over two altered copies: it is told as done, and a power-on finds the masks.
@@ -189,7 +188,7 @@ fn altered_at_the_end(rt: HostRuntime) -> Result<(), Fail> {
             b: SHUT,
         }),
     };
-    expect(&rt, rt.alloc(), zeros(rt.alloc()), &wanted)
+    expect(rt.alloc(), zeros(rt.alloc()), &wanted)
 }
 
 /// Faulty lines that alter: the lines, those of the report, and what is left.
@@ -218,7 +217,7 @@ fn altered_with_the_power_on(rt: HostRuntime) -> Result<(), Fail> {
             report,
             left: *left,
         };
-        expect(&rt, rt.alloc(), zeros(rt.alloc()), &wanted)?;
+        expect(rt.alloc(), zeros(rt.alloc()), &wanted)?;
     }
     Ok(())
 }

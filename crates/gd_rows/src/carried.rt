@@ -34,7 +34,7 @@ fn expect_carried<W: Draws + Drop>(
     assert_eq!(rt; ended.status, status);
     assert_eq!(rt; output.bytes(), report);
     assert!(rt; ended.falls.as_slice().is_empty());
-    expect_left(rt, alloc, ended.lab, left)
+    expect_left(alloc, ended.lab, left)
 }
 
 /// The same of a row.
@@ -201,7 +201,7 @@ fn royal_flush_first(alloc: Global) -> Result<ListDraws, Fail> {
 #[test]
 fn royal_flush_and_handpay(rt: HostRuntime) -> Result<(), Fail> {
     let alloc = rt.alloc();
-    expect(&rt, alloc, royal_flush_first(alloc)?, &TAKEN)?;
+    expect(alloc, royal_flush_first(alloc)?, &TAKEN)?;
     let above = setup_of(alloc, "handpay_limit = 6251\n")?;
     expect_row(&rt, alloc, above, royal_flush_first(alloc)?, &TAKEN)?;
     let at = setup_of(alloc, "handpay_limit = 6250\n")?;
@@ -229,7 +229,7 @@ fn expect_by_option<W: Draws + Drop>(
         run.output.bytes(),
         report(alloc, wanted.report)?.as_slice()
     );
-    expect_left(rt, alloc, run.lab, wanted.left)
+    expect_left(alloc, run.lab, wanted.left)
 }
 
 #[test]

@@ -18,7 +18,6 @@ use std::test::Fail;
 
 /// Runs a trial that locks the memory with its first lines.
 fn expect_under_lock<W: Draws + Drop>(
-    rt: &impl Abort,
     alloc: Global,
     draws: W,
     wanted: &Altered,
@@ -27,7 +26,7 @@ fn expect_under_lock<W: Draws + Drop>(
     script.extend_from_slice(&lines(alloc, wanted.script)?)?;
     let mut whole = report(alloc, LOCK_REPORT)?;
     whole.extend_from_slice(&lines(alloc, wanted.report)?)?;
-    expect_whole(rt, alloc, draws, script, wanted.status, &whole, wanted.left)
+    expect_whole(alloc, draws, script, wanted.status, &whole, wanted.left)
 }
 
 /// Both copies are altered in one off-period: the memory is locked, and stands as it was found.
@@ -39,7 +38,7 @@ fn both_copies_altered(rt: HostRuntime) -> Result<(), Fail> {
         report: &["locked", "end locked"],
         left: Left::Locked(LOST),
     };
-    expect_under_lock(&rt, rt.alloc(), zeros(rt.alloc()), &wanted)?;
+    expect_under_lock(rt.alloc(), zeros(rt.alloc()), &wanted)?;
     let cleared = Altered {
         script: &["bill 500", "clear", "bill 500"],
         status: Status::Done,
@@ -53,7 +52,7 @@ fn both_copies_altered(rt: HostRuntime) -> Result<(), Fail> {
         ],
         left: Left::Sound(2),
     };
-    expect_under_lock(&rt, rt.alloc(), zeros(rt.alloc()), &cleared)
+    expect_under_lock(rt.alloc(), zeros(rt.alloc()), &cleared)
 }
 
 /// Lines under a lock, and what each prints. None where the line is a script fault.
@@ -111,7 +110,6 @@ fn lines_under_a_lock(rt: HostRuntime) -> Result<(), Fail> {
         whole.extend_from_slice(&wanted)?;
         let draws = zeros(rt.alloc());
         expect_whole(
-            &rt,
             rt.alloc(),
             draws,
             script,
@@ -199,7 +197,7 @@ fn a_locked_memory_is_cleared(rt: HostRuntime) -> Result<(), Fail> {
         ],
         left: Left::Sound(4),
     };
-    expect(&rt, rt.alloc(), three_scatters(rt.alloc())?, &wanted)
+    expect(rt.alloc(), three_scatters(rt.alloc())?, &wanted)
 }
 
 /// Each clearing begins a lap of blocks. Of the seed 1, block 6 of lap 1 wins 10 credits on nine lines, and block 2 of
@@ -268,7 +266,7 @@ fn other_blocks_behind_a_clearing(rt: HostRuntime) -> Result<(), Fail> {
         ],
         left: Left::Sound(4),
     };
-    expect_under_lock(&rt, rt.alloc(), ChaChaDraws::new(1), &wanted)
+    expect_under_lock(rt.alloc(), ChaChaDraws::new(1), &wanted)
 }
 
 /// Scripts that clear a memory that isn't locked: the lines, those of the report, and what is left.
@@ -294,7 +292,7 @@ fn cleared_without_a_lock(rt: HostRuntime) -> Result<(), Fail> {
             report,
             left: *left,
         };
-        expect(&rt, rt.alloc(), zeros(rt.alloc()), &wanted)?;
+        expect(rt.alloc(), zeros(rt.alloc()), &wanted)?;
     }
     Ok(())
 }
@@ -351,7 +349,7 @@ fn expect_end(
     let run = trial_with_draws(alloc, &["trial"], source, 20_000, lab, zeros(alloc))?;
     assert_eq!(rt; run.status, status);
     assert!(rt; run.output.bytes().ends_with(end));
-    expect_left(rt, alloc, run.lab, left)
+    expect_left(alloc, run.lab, left)
 }
 
 // ================ failures of what is outside
@@ -405,7 +403,7 @@ fn a_sink_that_fails_in_each_line(rt: HostRuntime) -> Result<(), Fail> {
         let run = trial_with_draws(alloc, &["trial"], source, front.len(), lab, zeros(alloc))?;
         assert_eq!(rt; run.status, Status::WriteFault);
         assert_eq!(rt; run.output.bytes(), front.as_slice());
-        expect_left(&rt, alloc, run.lab, *left)?;
+        expect_left(alloc, run.lab, *left)?;
         whole.extend_from_slice(&lines(alloc, &[*line])?)?;
     }
     Ok(())

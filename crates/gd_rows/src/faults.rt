@@ -63,7 +63,7 @@ fn expect_front(
     assert_eq!(rt; run.status, status);
     assert_eq!(rt; run.output.bytes(), front);
     match entries {
-        Some(count) => are_sound(rt, alloc, run.lab, count),
+        Some(count) => are_sound(alloc, run.lab, count),
         None => {
             assert_eq!(rt; run.lab.powered(), false);
             Ok(())
@@ -178,7 +178,7 @@ fn a_disk_that_fails_in_a_repair(rt: HostRuntime) -> Result<(), Fail> {
                 a: *a,
                 b: CopyState::Sound(2),
             };
-            expect_left(&rt, alloc, run.lab, Left::Off(found))?;
+            expect_left(alloc, run.lab, Left::Off(found))?;
         }
     }
     Ok(())

@@ -21,7 +21,7 @@ const VOUCHERS_AND_LIMITS: Altered = Altered {
 
 #[test]
 fn vouchers_and_limits(rt: HostRuntime) -> Result<(), Fail> {
-    expect(&rt, rt.alloc(), zeros(rt.alloc()), &VOUCHERS_AND_LIMITS)
+    expect(rt.alloc(), zeros(rt.alloc()), &VOUCHERS_AND_LIMITS)
 }
 
 /// Each bill, a coin and a voucher up to the credit limit. A full stacker locks the machine up until it is cleared, each time
@@ -63,7 +63,7 @@ const UP_TO_THE_CREDIT_LIMIT: Altered = Altered {
 
 #[test]
 fn up_to_the_credit_limit(rt: HostRuntime) -> Result<(), Fail> {
-    expect(&rt, rt.alloc(), zeros(rt.alloc()), &UP_TO_THE_CREDIT_LIMIT)
+    expect(rt.alloc(), zeros(rt.alloc()), &UP_TO_THE_CREDIT_LIMIT)
 }
 
 /// Each device repeats its last event, before and after a loss of power, and gets the kept reply. Behind `as` stand events of
@@ -98,5 +98,5 @@ const AGAIN_OF_EACH_DEVICE: Altered = Altered {
 
 #[test]
 fn again_of_each_device(rt: HostRuntime) -> Result<(), Fail> {
-    expect(&rt, rt.alloc(), zeros(rt.alloc()), &AGAIN_OF_EACH_DEVICE)
+    expect(rt.alloc(), zeros(rt.alloc()), &AGAIN_OF_EACH_DEVICE)
 }

@@ -27,7 +27,7 @@ const HOPPER_RUNS_EMPTY: Altered = Altered {
 
 #[test]
 fn hopper_runs_empty(rt: HostRuntime) -> Result<(), Fail> {
-    expect(&rt, rt.alloc(), zeros(rt.alloc()), &HOPPER_RUNS_EMPTY)
+    expect(rt.alloc(), zeros(rt.alloc()), &HOPPER_RUNS_EMPTY)
 }
 
 /// More than a voucher may have is paid by the attendant.
@@ -50,12 +50,7 @@ const CANCELLED_CREDIT_HANDPAY: Altered = Altered {
 
 #[test]
 fn cancelled_credit_handpay(rt: HostRuntime) -> Result<(), Fail> {
-    expect(
-        &rt,
-        rt.alloc(),
-        zeros(rt.alloc()),
-        &CANCELLED_CREDIT_HANDPAY,
-    )
+    expect(rt.alloc(), zeros(rt.alloc()), &CANCELLED_CREDIT_HANDPAY)
 }
 
 /// Orders that are named by their number and by `open`. Order 1 is open: money in, a play and a cash-out are refused, and so are
@@ -106,10 +101,5 @@ const ORDERS_BY_NUMBER_AND_OPEN: Altered = Altered {
 
 #[test]
 fn orders_by_number_and_open(rt: HostRuntime) -> Result<(), Fail> {
-    expect(
-        &rt,
-        rt.alloc(),
-        zeros(rt.alloc()),
-        &ORDERS_BY_NUMBER_AND_OPEN,
-    )
+    expect(rt.alloc(), zeros(rt.alloc()), &ORDERS_BY_NUMBER_AND_OPEN)
 }

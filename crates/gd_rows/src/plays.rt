@@ -29,7 +29,7 @@ const PICK_SURVIVES_POWER_CUT: Altered = Altered {
 #[test]
 fn pick_survives_power_cut(rt: HostRuntime) -> Result<(), Fail> {
     let draws = three_scatters(rt.alloc())?;
-    expect(&rt, rt.alloc(), draws, &PICK_SURVIVES_POWER_CUT)
+    expect(rt.alloc(), draws, &PICK_SURVIVES_POWER_CUT)
 }
 
 /// The ace below the two: 50 for each of 5 credits, which are 1,250 cents.
@@ -54,7 +54,7 @@ fn ace_low_straight_flush(rt: HostRuntime) -> Result<(), Fail> {
     // The ace of clubs is at place 12 of 52.
     words[0] = 0x3b13_b13b_13b1_3b14;
     let draws = ListDraws::of(vec![in alloc; ZEROS, words]?);
-    expect(&rt, alloc, draws, &ACE_LOW_STRAIGHT_FLUSH)
+    expect(alloc, draws, &ACE_LOW_STRAIGHT_FLUSH)
 }
 
 /// The first of eleven plays is no longer recalled. The last one wins 5 credits on line 1, F by three with a wild, and doubles them
@@ -98,7 +98,7 @@ fn eleven_plays_and_gambles(rt: HostRuntime) -> Result<(), Fail> {
     words[2] = 0x2000_0000_0000_0000;
     let mut blocks = vec![in alloc; ZEROS; 11]?;
     blocks.push(words)?;
-    expect(&rt, alloc, ListDraws::of(blocks), &ELEVEN_PLAYS_AND_GAMBLES)
+    expect(alloc, ListDraws::of(blocks), &ELEVEN_PLAYS_AND_GAMBLES)
 }
 
 /// Words by which the jack of clubs, the three of hearts, the jack of diamonds, the nine of spades and the seven of clubs are
@@ -185,7 +185,7 @@ fn held_and_gambled(rt: HostRuntime) -> Result<(), Fail> {
         royal_flush(),
         eight_behind_six(),
     ]?);
-    expect(&rt, alloc, draws, &HELD_AND_GAMBLED)
+    expect(alloc, draws, &HELD_AND_GAMBLED)
 }
 
 /// Doors and tilts while a play is open. The first condition is shown, conditions stand through a loss of power, and money in
@@ -230,5 +230,5 @@ const DOORS_AND_TILTS_IN_A_PLAY: Altered = Altered {
 #[test]
 fn doors_and_tilts_in_a_play(rt: HostRuntime) -> Result<(), Fail> {
     let draws = three_scatters(rt.alloc())?;
-    expect(&rt, rt.alloc(), draws, &DOORS_AND_TILTS_IN_A_PLAY)
+    expect(rt.alloc(), draws, &DOORS_AND_TILTS_IN_A_PLAY)
 }

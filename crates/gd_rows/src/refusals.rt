@@ -124,7 +124,7 @@ fn lines_end(
     let run = trial(alloc, &["trial"], EmptyLines { lines }, 1000, lab)?;
     assert_eq!(rt; run.status, status);
     assert_eq!(rt; run.output.bytes(), report(alloc, &[wanted])?.as_slice());
-    are_sound(rt, alloc, run.lab, 1)
+    are_sound(alloc, run.lab, 1)
 }
 
 #[test]

@@ -38,7 +38,7 @@ pub(crate) fn expect<W: Draws + Drop>(
     let report = report(alloc, wanted.report)?;
     assert_eq!(rt; run.output.bytes(), report.as_slice());
     match wanted.entries {
-        Some(count) => are_sound(rt, alloc, run.lab, count),
+        Some(count) => are_sound(alloc, run.lab, count),
         None => {
             assert_eq!(rt; run.lab.powered(), false);
             Ok(())
@@ -260,7 +260,7 @@ fn as_many_power_ons_as_are_allowed(rt: HostRuntime) -> Result<(), Fail> {
     assert_eq!(rt; run.status, Status::Done);
     let wanted = b"start at 256\nend at 256 credit 0\n";
     assert!(rt; run.output.bytes().ends_with(wanted));
-    are_sound(&rt, alloc, run.lab, 256)?;
+    are_sound(alloc, run.lab, 256)?;
 
     bytes.extend_from_slice(b"off\non\nbill 500\n")?;
     let lab = MemoryLab::new(alloc, DISK_LEN)?;
@@ -332,7 +332,7 @@ fn read_fault(rt: HostRuntime) -> Result<(), Fail> {
     assert_eq!(rt; run.status, Status::ReadFault);
     let wanted = report(alloc, &["read fault"])?;
     assert_eq!(rt; run.output.bytes(), wanted.as_slice());
-    are_sound(&rt, alloc, run.lab, 1)
+    are_sound(alloc, run.lab, 1)
 }
 
 #[test]
@@ -343,7 +343,7 @@ fn write_fault(rt: HostRuntime) -> Result<(), Fail> {
     let run = trial(alloc, &["trial"], script, 10, lab)?;
     assert_eq!(rt; run.status, Status::WriteFault);
     assert_eq!(rt; run.output.bytes(), b"power 1: a".as_slice());
-    are_sound(&rt, alloc, run.lab, 1)
+    are_sound(alloc, run.lab, 1)
 }
 
 #[test]

@@ -6,7 +6,6 @@ use gd_disk::{DISK_LEN, LabDisk, MemoryLab};
 use gd_store::{Booted, CopyState, Found, Room, Why, boot};
 use gd_top::Status;
 use std::alloc::Global;
-use std::process::Abort;
 use std::test::Fail;
 
 /// What a trial leaves.
@@ -59,7 +58,6 @@ pub const SOUND_2: Found = Found {
 
 /// Runs a trial of this script with these draws: its status, its whole report and what it leaves are as wanted.
 pub fn expect_whole<W: Draws + Drop>(
-    rt: &impl Abort,
     alloc: Global,
     draws: W,
     script: Vec<u8>,
@@ -70,46 +68,36 @@ pub fn expect_whole<W: Draws + Drop>(
     let source = MemorySource::of(script, None);
     let lab = MemoryLab::new(alloc, DISK_LEN)?;
     let run = trial_with_draws(alloc, &["trial"], source, ROOM, lab, draws)?;
-    assert_eq!(rt; run.status, status);
-    assert_eq!(rt; run.output.bytes(), report);
-    expect_left(rt, alloc, run.lab, left)
+    if run.status != status {
+        return Err(Fail::new("another status"));
+    }
+    if run.output.bytes() != report {
+        return Err(Fail::new("another report"));
+    }
+    expect_left(alloc, run.lab, left)
 }
 
 /// The same of a row.
-pub fn expect<W: Draws + Drop>(
-    rt: &impl Abort,
-    alloc: Global,
-    draws: W,
-    wanted: &Altered,
-) -> Result<(), Fail> {
+pub fn expect<W: Draws + Drop>(alloc: Global, draws: W, wanted: &Altered) -> Result<(), Fail> {
     let script = lines(alloc, wanted.script)?;
     let report = report(alloc, wanted.report)?;
-    expect_whole(
-        rt,
-        alloc,
-        draws,
-        script,
-        wanted.status,
-        &report,
-        wanted.left,
-    )
+    expect_whole(alloc, draws, script, wanted.status, &report, wanted.left)
 }
 
 /// The laboratory is left so.
-pub fn expect_left<L: LabDisk + Drop>(
-    rt: &impl Abort,
-    alloc: Global,
-    mut lab: L,
-    left: Left,
-) -> Result<(), Fail> {
+pub fn expect_left<L: LabDisk + Drop>(alloc: Global, mut lab: L, left: Left) -> Result<(), Fail> {
     match left {
         Left::Sound(count) => {
-            assert_eq!(rt; lab.powered(), true);
-            are_sound(rt, alloc, lab, count)
+            if !lab.powered() {
+                return Err(Fail::new("the power is off"));
+            }
+            are_sound(alloc, lab, count)
         }
         Left::Locked(wanted) => {
-            assert_eq!(rt; lab.powered(), true);
-            are_found(rt, alloc, lab, wanted)
+            if !lab.powered() {
+                return Err(Fail::new("the power is off"));
+            }
+            are_found(alloc, lab, wanted)
         }
         Left::Off(wanted) => {
             if lab.powered() {
@@ -118,25 +106,22 @@ pub fn expect_left<L: LabDisk + Drop>(
             if lab.power_on().is_err() {
                 return Err(Fail::new("the power stays off"));
             }
-            are_found(rt, alloc, lab, wanted)
+            are_found(alloc, lab, wanted)
         }
     }
 }
 
 /// The copies are found so.
-fn are_found<L: LabDisk + Drop>(
-    rt: &impl Abort,
-    alloc: Global,
-    mut lab: L,
-    wanted: Found,
-) -> Result<(), Fail> {
+fn are_found<L: LabDisk + Drop>(alloc: Global, mut lab: L, wanted: Found) -> Result<(), Fail> {
     let mut room = Room::new(alloc)?;
     if lab.len() != DISK_LEN {
         return Err(Fail::new("another length"));
     }
     match boot(&mut lab, &mut room) {
         Booted::Ready { found, .. } | Booted::Lost(found) => {
-            assert_eq!(rt; found, wanted);
+            if found != wanted {
+                return Err(Fail::new("the copies are found otherwise"));
+            }
             Ok(())
         }
         Booted::Off => Err(Fail::new("no copy was read")),

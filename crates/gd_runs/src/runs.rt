@@ -7,7 +7,6 @@ use gd_disk::{DISK_LEN, LabDisk, MemoryDisk};
 use gd_store::{Booted, CopyState, Room, boot};
 use gd_top::{Falls, Status, cabinet};
 use std::alloc::Global;
-use std::process::Abort;
 use std::test::Fail;
 
 /// The lines of each report before those of the script.
@@ -101,21 +100,17 @@ pub fn zeros(alloc: Global) -> ListDraws {
 }
 
 /// Both copies are sound at this count.
-pub fn are_sound<L: LabDisk + Drop>(
-    rt: &impl Abort,
-    alloc: Global,
-    mut lab: L,
-    count: u64,
-) -> Result<(), Fail> {
+pub fn are_sound<L: LabDisk + Drop>(alloc: Global, mut lab: L, count: u64) -> Result<(), Fail> {
     let mut room = Room::new(alloc)?;
     if lab.len() != DISK_LEN {
         return Err(Fail::new("another length"));
     }
     match boot(&mut lab, &mut room) {
         Booted::Ready { found, sequence } => {
-            assert_eq!(rt; sequence, count);
-            assert_eq!(rt; found.a, CopyState::Sound(count));
-            assert_eq!(rt; found.b, CopyState::Sound(count));
+            let wanted = CopyState::Sound(count);
+            if sequence != count || found.a != wanted || found.b != wanted {
+                return Err(Fail::new("the copies aren't sound at this count"));
+            }
             Ok(())
         }
         _ => Err(Fail::new("no copy is sound")),
