@@ -6,7 +6,7 @@ use Rattle.gd_base.specs.declared.step.What.{What}
 use Rattle.gd_disk.specs.Disk.{DiskState}
 use Rattle.gd_top.specs.Claims.Images.{CheckDid, InitDid, ShowDid}
 use Rattle.gd_top.specs.Claims.Program.{World, CanEnd, CanEndAs, CommandCauses, CommandDone, DiskRose, HasNotFailed, in_lab}
-use Rattle.gd_top.specs.Claims.Trial.{GivesLast, Outer}
+use Rattle.gd_top.specs.Claims.Runs.{GivesLast, Outer, trial_beginning}
 use Rattle.gd_top.specs.declared.status.Status.{Status}
 use Rattle.gd_top.proofs.SoakLemmas.Told.{soak_is_done}
 use Rattle.gd_top.proofs.TrialLemmas.Ends.{carried_as_told}
@@ -46,7 +46,7 @@ module _ {V : Type 0} (M : Machine V) (B : Blocks) (falls : List ℕ) (was now :
   command_ends : (command : Command) (status : Status) → CommandDone M B command status falls was now old new → CommandCauses command status was now old new
       → (Rose was.read_faults now.read_faults → ⊥) → (Rose was.write_faults now.write_faults → ⊥) → (DiskRose (in_lab command) was now old new → ⊥) → CanEnd command status
   command_ends Command.Trial status h k read write disk =
-      (carried_as_told M B falls was now status h (record { read = k.read; write = k.write; disk = k.disk }) read write disk).0
+      (carried_as_told (trial_beginning M) M B falls was now status h (record { read = k.read; write = k.write; disk = k.disk }) read write disk).0
   command_ends (Command.Init image) status h k read write disk =
       init_ends old new was.taken now.taken status (λ is. write (k.write is)) disk M h.0 h.1 h.2 h.3
   command_ends (Command.Show what image) status h k read write disk =

@@ -6,6 +6,6 @@ pub mod NothingLost
 pub mod OneHistory
 pub mod Program
 pub mod Refusals
+pub mod Runs
 pub mod Setups
 pub mod Soak
-pub mod Trial

@@ -6,7 +6,7 @@ ghost use Rattle.gd_base.specs.Outside.Blocks.{AreBlocks};
 ghost use Rattle.gd_base.specs.Outside.Causes.{Rose};
 ghost use Rattle.gd_image.specs.Words.{platform_setup, platform_view};
 ghost use Rattle.gd_machine.specs.Meaning.{the_machine};
-ghost use Rattle.gd_top.specs.Claims.Trial.{outer, CarriesAsTold, HasCauses, IsCarried, WroteBroken, WroteFront, WroteReport, WroteToFault};
+ghost use Rattle.gd_top.specs.Claims.Runs.{outer, trial_beginning, CarriesAsTold, HasCauses, IsCarried, WroteBroken, WroteFront, WroteReport, WroteToFault};
 
 use crate::command::trial::run_trial;
 use crate::ended::Carried;
@@ -34,42 +34,49 @@ pub fn carry<S: Source, K: Sink, L: LabDisk, W: Draws>(
     requires found { (L.state lab).found ≡ [] }
     // 0: the input was taken to its end, and the whole report was written.
     ensures done { result.status ≡ Status.Done
-        → WroteReport (the_machine (platform_setup core)) (W.block_of draws) Status.Done
+        → WroteReport (trial_beginning (the_machine (platform_setup core)))
+        (the_machine (platform_setup core)) (W.block_of draws) Status.Done
         result.falls.items
         (outer S.left S.faults K.taken K.faults L.state input.old output.old lab)
         (outer S.left S.faults K.taken K.faults L.state input.new output.new result.lab)
         × IsAtEnd (S.left input.new) }
     // 3: the lines whose LF was taken were carried out.
     ensures read_fault { result.status ≡ Status.ReadFault
-        → WroteToFault (the_machine (platform_setup core)) (W.block_of draws) result.falls.items
+        → WroteToFault (trial_beginning (the_machine (platform_setup core)))
+        (the_machine (platform_setup core)) (W.block_of draws) result.falls.items
         (outer S.left S.faults K.taken K.faults L.state input.old output.old lab)
         (outer S.left S.faults K.taken K.faults L.state input.new output.new result.lab) }
     // 4: a front of what is told was written.
     ensures write_fault { result.status ≡ Status.WriteFault
-        → WroteFront (the_machine (platform_setup core)) (W.block_of draws) result.falls.items
+        → WroteFront (trial_beginning (the_machine (platform_setup core)))
+        (the_machine (platform_setup core)) (W.block_of draws) result.falls.items
         (outer S.left S.faults K.taken K.faults L.state input.old output.old lab)
         (outer S.left S.faults K.taken K.faults L.state input.new output.new result.lab) }
     // 5: what is told up to there was written.
     ensures disk_fault { result.status ≡ Status.DiskFault
-        → WroteBroken (the_machine (platform_setup core)) (W.block_of draws) result.falls.items
+        → WroteBroken (trial_beginning (the_machine (platform_setup core)))
+        (the_machine (platform_setup core)) (W.block_of draws) result.falls.items
         (outer S.left S.faults K.taken K.faults L.state input.old output.old lab)
         (outer S.left S.faults K.taken K.faults L.state input.new output.new result.lab) }
     // 6: the report of the lines before the first faulty one, and its number.
     ensures script_fault { result.status ≡ Status.ScriptFault
-        → WroteReport (the_machine (platform_setup core)) (W.block_of draws) Status.ScriptFault
+        → WroteReport (trial_beginning (the_machine (platform_setup core)))
+        (the_machine (platform_setup core)) (W.block_of draws) Status.ScriptFault
         result.falls.items
         (outer S.left S.faults K.taken K.faults L.state input.old output.old lab)
         (outer S.left S.faults K.taken K.faults L.state input.new output.new result.lab) }
     // 7: as 0, over a memory that stands locked.
     ensures locked { result.status ≡ Status.Locked
-        → WroteReport (the_machine (platform_setup core)) (W.block_of draws) Status.Locked
+        → WroteReport (trial_beginning (the_machine (platform_setup core)))
+        (the_machine (platform_setup core)) (W.block_of draws) Status.Locked
         result.falls.items
         (outer S.left S.faults K.taken K.faults L.state input.old output.old lab)
         (outer S.left S.faults K.taken K.faults L.state input.new output.new result.lab)
         × IsAtEnd (S.left input.new) }
     // 11: the report up to the opening that found a memory of another setup, which is as it was found.
     ensures differs { result.status ≡ Status.SetupDiffers
-        → WroteReport (the_machine (platform_setup core)) (W.block_of draws) Status.SetupDiffers
+        → WroteReport (trial_beginning (the_machine (platform_setup core)))
+        (the_machine (platform_setup core)) (W.block_of draws) Status.SetupDiffers
         result.falls.items
         (outer S.left S.faults K.taken K.faults L.state input.old output.old lab)
         (outer S.left S.faults K.taken K.faults L.state input.new output.new result.lab) }
@@ -81,7 +88,8 @@ pub fn carry<S: Source, K: Sink, L: LabDisk, W: Draws>(
     ensures exact { (Rose (S.faults input.old) (S.faults input.new) → ⊥)
         → (Rose (K.faults output.old) (K.faults output.new) → ⊥)
         → (Rose (L.state lab).faults (L.state result.lab).faults → ⊥)
-        → CarriesAsTold (the_machine (platform_setup core)) (W.block_of draws) result.status
+        → CarriesAsTold (trial_beginning (the_machine (platform_setup core)))
+        (the_machine (platform_setup core)) (W.block_of draws) result.status
         result.falls.items
         (outer S.left S.faults K.taken K.faults L.state input.old output.old lab)
         (outer S.left S.faults K.taken K.faults L.state input.new output.new result.lab) }

@@ -9,7 +9,7 @@ ghost use Rattle.gd_disk.specs.Memory.{lab_state};
 ghost use Rattle.gd_disk.specs.declared.lengths.TheConstants.{DISK_LEN};
 ghost use Rattle.gd_top.specs.Claims.Program.{asked, world, IsCarriedOut, IsRefused};
 ghost use Rattle.gd_top.specs.Claims.Refusals.{refusal_text};
-ghost use Rattle.gd_top.specs.Claims.Trial.{GivesLast};
+ghost use Rattle.gd_top.specs.Claims.Runs.{GivesLast};
 ghost use Rattle.gd_top.specs.Code.Named.{seed_named};
 ghost use Rattle.gd_top.specs.Report.StatusNumber.{status_number};
 ghost use Rattle.gd_words.specs.CommandLine.{texts};

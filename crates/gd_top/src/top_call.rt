@@ -7,8 +7,8 @@ ghost use Rattle.gd_image.specs.Words.{platform_setup, platform_view};
 ghost use Rattle.gd_machine.specs.Meaning.{the_machine};
 ghost use Rattle.gd_top.specs.Claims.Program.{asked, asks, asks_setup, in_image, in_lab, is_built, reads_script, world, CanEndAs, CommandCauses, CommandDone, HasNotFailed, HasReasons, IsCarriedOut, IsRefused};
 ghost use Rattle.gd_top.specs.Claims.Refusals.{names_setup, refusal_status, refusal_text};
+ghost use Rattle.gd_top.specs.Claims.Runs.{outer, GivesLast};
 ghost use Rattle.gd_top.specs.Claims.Setups.{TookFront};
-ghost use Rattle.gd_top.specs.Claims.Trial.{outer, GivesLast};
 ghost use Rattle.gd_words.specs.CommandLine.{texts};
 ghost use Rattle.gd_words.specs.Table.{InRange};
 

@@ -10,7 +10,7 @@ use Rattle.gd_base.specs.Judging.Answer.{answer, entry_of, is_full}
 use Rattle.gd_base.specs.Histories.Entry.{Entry}
 use Rattle.gd_base.specs.Judging.Legal.{IsLegal, IsNext, view_over}
 use Rattle.gd_base.specs.Judging.Machine.{Machine, Blocks}
-use Rattle.gd_base.specs.Payloads.LoadedView.{opens, view_loaded}
+use Rattle.gd_base.specs.Payloads.LoadedView.{opens}
 use Rattle.gd_base.specs.Payloads.Spelled.{Spelled, Shows, Foreign, Unreadable}
 use Rattle.gd_base.proofs.AnswerLemmas.Answer.{new_entry}
 use Rattle.gd_disk.specs.declared.disk.ArmedCut.{ArmedCut}
@@ -23,11 +23,11 @@ use Rattle.gd_store.specs.declared.copy.states.Found.{Found}
 use Rattle.gd_store.specs.Repair.{Repair, repair_needed, syncs_of_repair}
 use Rattle.gd_top.specs.declared.script.reader.TheConstants.{MOST_LINES}
 use Rattle.gd_top.specs.Run.Items.{below_limit, at_limit, in_trial, with_power, next_numbered, event_meaning, order_of, again_meaning, off_meaning, on_meaning, alter_meaning, clear_meaning, item_meaning, one_more, line_meaning, lines_meaning}
-use Rattle.gd_top.specs.Claims.OneHistory.{OneLegalHistory, OneLegalHistoryOverImages}
-use Rattle.gd_top.specs.Run.Life.{unopened, run_meaning, made_memory}
+use Rattle.gd_top.specs.Claims.OneHistory.{HasLegalHistory, OneLegalHistory, OneLegalHistoryOverImages}
+use Rattle.gd_top.specs.Run.Life.{of_trial, over_image, run_meaning, made_memory}
 use Rattle.gd_top.specs.Run.Offers.{Fate, Whole, Fell, Broke, Offer, is_head, under_unit, under_cuts, is_broken, unless_broken, counted, offer, syncs_of_event, syncs_of_making}
 use Rattle.gd_top.specs.Run.Openings.{Wanted, Done, Answer, Cleared, Reopening, unexplained, cleared, resolved, locked, recorded, record_entry, answered, answered_by, resumed, still_wanted, turned_on, turned_off, start_entry, started, opened_full, opened, made, make, locked_with, found_open, powered, reopen, power_on}
-use Rattle.gd_top.specs.Run.State.{Start, State, Flight, Nothing, Recording, Making, Phase, On, Off, Locked, Outcome, Goes, Stops, Differs, Breaks, Part, prints, goes_on, with_entry, over}
+use Rattle.gd_top.specs.Run.State.{Start, State, Flight, Nothing, Recording, Making, Phase, On, Off, Locked, Outcome, Goes, Stops, Differs, Breaks, Part, prints, goes_on, with_entry}
 
 -- what is promised, as a product
 abbrev Ok : {V : Type 0} (M : Machine V) (B : Blocks) → State V → Type 0
@@ -268,11 +268,15 @@ run_ok M B ls s h = goes_ok M B (power_on M B Nothing Done s).outcome (power_on 
 -- in every trial, whatever was found and wherever the power fell
 pub one_legal_history : {V : Type 0} (M : Machine V) (B : Blocks) → OneLegalHistory M B
 one_legal_history M B lines falls starts broken_at =
-    let h = run_ok M B lines (unopened M true falls starts broken_at) (tt, refl) in
+    let h = run_ok M B lines (of_trial M falls starts broken_at) (tt, refl) in
     record { legal = h.0; seen = h.1 }
 
--- and in every run over an image
-pub one_legal_history_over_images : {V : Type 0} (M : Machine V) (B : Blocks) → OneLegalHistoryOverImages M B
-one_legal_history_over_images M B lines image broken_at =
-    let h = run_ok M B lines (over (view_loaded M (opens M image.boots)) (unopened M false [] (image ∷ made_memory M ∷ []) broken_at)) (tt, refl) in
+-- and in every run over an image, whatever the power-ons find
+pub legal_over_image : {V : Type 0} (M : Machine V) (B : Blocks) (image : Start V) (lines : List (Option Item)) (falls : List ℕ) (starts : List (Start V)) (broken_at : Option ℕ)
+    → HasLegalHistory M B (run_meaning M B lines (over_image M image falls starts broken_at)).state
+legal_over_image M B image lines falls starts broken_at =
+    let h = run_ok M B lines (over_image M image falls starts broken_at) (tt, refl) in
     record { legal = h.0; seen = h.1 }
+
+pub one_legal_history_over_images : {V : Type 0} (M : Machine V) (B : Blocks) → OneLegalHistoryOverImages M B
+one_legal_history_over_images M B lines image broken_at = legal_over_image M B image lines [] (image ∷ made_memory M ∷ []) broken_at

@@ -10,8 +10,8 @@ use Rattle.gd_disk.specs.Disk.{DiskState}
 use Rattle.gd_script.specs.Generated.{generated}
 use Rattle.gd_script.specs.declared.item.Item.{Item}
 use Rattle.gd_top.specs.Claims.MemoryLeft.{IsAtRest, IsLeft, first_syncs}
+use Rattle.gd_top.specs.Claims.Runs.{GivesLast, trial_beginning}
 use Rattle.gd_top.specs.Claims.Soak.{SoakBroke, SoakDid, SoakedThrough, alone, soak_lines}
-use Rattle.gd_top.specs.Claims.Trial.{GivesLast}
 use Rattle.gd_top.specs.Code.LinesDone.{IsFailedMaking, made_outside}
 use Rattle.gd_top.specs.Code.Memory.{Moment, Fits, IsKnownIn, Leaves, Serves, outside}
 use Rattle.gd_top.specs.Code.Parts.{Broken, Carries, Outside}
@@ -24,7 +24,7 @@ use Rattle.gd_top.specs.declared.halt.Halt.{Halt}
 use Rattle.gd_top.specs.declared.status.Status.{Status}
 use Rattle.gd_top.proofs.RunLemmas.Parts.{front_then}
 use Rattle.gd_top.proofs.TrialLemmas.Told.{is_left}
-use Rattle.gd_top.proofs.TrialLemmas.WholeRun.{ending_first, run, run_is, unmade_first, whole}
+use Rattle.gd_top.proofs.TrialLemmas.WholeRun.{BeginsAt, ending_first, run, run_is, trial_begins, unmade_first, whole}
 
 -- the items go on behind the first n
 more_items : (n count seed : ℕ) → n ≤ count → (others : List (Option Item)) × (soak_lines count seed ≡ soak_lines n seed ++ others)
@@ -44,21 +44,25 @@ module _ {V : Type 0} (M : Machine V) (B : Blocks) (count seed : ℕ) (old new :
   abbrev first : Standing V
   first = first_standing M
 
+  abbrev begin : BeginsAt (trial_beginning M) M B first
+  begin = trial_begins M B
+
   -- all items were carried out
   abbrev through : (t : Standing V) → Carries M (run_meaning M B (soak_lines count seed)) Goes first t before after → t.phase ≡ On → AreArmed t.armed new.armed
       → (t.forged ≡ 0 → (t.other_views ≡ 0) × (t.other_locks ≡ 0)) → IsLeft M (at t (only [] [] None)) new → SoakedThrough M B count seed falls old new
   through t k on armed explained left = record {
-    run = run M B (alone old) (alone new) None falls Goes (soak_lines count seed) t k;
-    is_run = run_is M B (alone old) (alone new) None falls Goes (soak_lines count seed) t k;
+    run = run (trial_beginning M) M B first begin (alone old) (alone new) None falls Goes (soak_lines count seed) t k;
+    is_run = run_is (trial_beginning M) M B first begin (alone old) (alone new) None falls Goes (soak_lines count seed) t k;
     goes = refl;
     on = on;
-    whole = whole M B (alone old) (alone new) None falls Goes (soak_lines count seed) t k armed explained left;
+    whole = whole (trial_beginning M) M B first begin (alone old) (alone new) None falls Goes (soak_lines count seed) t k armed explained left;
   }
 
   -- the disk failed in one of them, or in the opening
   broke : (n : ℕ) → n ≤ count → Broken M (run_meaning M B (soak_lines n seed)) first before after new → SoakBroke M B count seed falls old new
   broke n few k = record {
-    first = ending_first M B (alone old) (alone new) None falls (soak_lines count seed) (soak_lines n seed) k.ending (more_items n count seed few) k.armed;
+    first = ending_first (trial_beginning M) M B first begin (alone old) (alone new) None falls (soak_lines count seed) (soak_lines n seed) k.ending (more_items n count seed few)
+        k.armed;
     breaks = k.breaks;
     left = inr k.left;
   }
@@ -70,9 +74,10 @@ module _ {V : Type 0} (was now : Moment V) (count seed : ℕ) (unkept : was.take
   -- or in the making
   unmade : IsFailedMaking (Err Halt.DiskFault) was now → SoakBroke M was.blocks count seed now.counts.falls.items was.disk now.disk
   unmade k = record {
-    first = unmade_first M was.blocks (alone was.disk) (alone now.disk) None now.counts.falls.items k.found k.syncs k.armed refl k.falls (soak_lines count seed);
+    first = unmade_first (trial_beginning M) M was.blocks (first_standing M) (trial_begins M was.blocks) (alone was.disk) (alone now.disk) None now.counts.falls.items k.found
+        (k.found, k.left) k.armed refl k.falls (soak_lines count seed);
     breaks = refl;
-    left = inl (k.found, k.syncs);
+    left = inl (k.found, k.left);
   }
 
   -- the outside without what the sink tells
@@ -115,7 +120,7 @@ module _ {V : Type 0} (was now : Moment V) (count seed : ℕ) (unkept : was.take
       → SoakDid M was.blocks count seed now.counts.falls.items was.disk now.disk (soak_status r) (soak_text now.machine count now.counts.power_ons now.view r)
   soak_did r (inl k) leaves rested end =
       subst (λ (q : Result (Unit {0}) Halt). SoakDid M was.blocks count seed now.counts.falls.items was.disk now.disk (soak_status q) (soak_text now.machine count now.counts.power_ons now.view q)) (sym k.fault)
-      (refl, unmade (record { fault = refl; found = k.found; syncs = k.syncs; armed = k.armed; falls = k.falls; printed = k.printed }))
+      (refl, unmade (record { fault = refl; found = k.found; left = k.left; armed = k.armed; falls = k.falls; printed = k.printed }))
   soak_did r (inr k) leaves rested end = done_by r k.0 k.1 k.2 leaves rested end
 
 -- ================ what was given

@@ -2,7 +2,7 @@
 use Rattle.std.proofs.Common.{◌≡◌, ◌⊎◌, inl, inr, ◌∙◌, ap, sym, refl, ◌≤◌, ℕ, List, arith, Result, Ok, Err}
 use Rattle.gd_base.specs.Outside.Causes.{Rose}
 use Rattle.gd_base.specs.Judging.Machine.{Machine, Blocks}
-use Rattle.gd_top.specs.Claims.Trial.{Outer, CarriesAsTold, HasCauses, IsEnd, TrialDone, WroteReport, status_after}
+use Rattle.gd_top.specs.Claims.Runs.{Outer, Beginning, CarriesAsTold, HasCauses, IsEnd, RunTold, WroteReport, status_after}
 use Rattle.gd_top.specs.Run.Life.{status_of}
 use Rattle.gd_top.specs.Run.State.{Part, Phase, On, Off, Locked}
 use Rattle.gd_top.specs.declared.halt.Halt.{Halt}
@@ -39,13 +39,13 @@ module _ (status : Status) (was now : Outer) where
   causes (Err Halt.WriteFault) phase faults (inl is) le later read write disk =
       record { read = λ e. absurd (cc (is, e)); write = λ e. risen was.write_faults faults now.write_faults (write refl) later; disk = λ e. absurd (cc (is, e)) }
 
-module _ {V : Type 0} (M : Machine V) (B : Blocks) (falls : List ℕ) (was now : Outer) where
+module _ {V : Type 0} (begin : Beginning V) (M : Machine V) (B : Blocks) (falls : List ℕ) (was now : Outer) where
   -- where no count rose, it ends as the definition says
-  ended_so : (status : Status) → IsEnd status → WroteReport M B status falls was now → CarriesAsTold M B status falls was now
+  ended_so : (status : Status) → IsEnd status → WroteReport begin M B status falls was now → CarriesAsTold begin M B status falls was now
   ended_so status end h = (end, h.script, h.of_source, sym h.ended ∙ ap (λ (t : Part V). status_of t.outcome t.state) h.is_run)
 
-  pub carried_as_told : (status : Status) → TrialDone M B status falls was now → HasCauses status was now → (Rose was.read_faults now.read_faults → ⊥)
-      → (Rose was.write_faults now.write_faults → ⊥) → (Rose was.disk.faults now.disk.faults → ⊥) → CarriesAsTold M B status falls was now
+  pub carried_as_told : (status : Status) → RunTold begin M B status falls was now → HasCauses status was now → (Rose was.read_faults now.read_faults → ⊥)
+      → (Rose was.write_faults now.write_faults → ⊥) → (Rose was.disk.faults now.disk.faults → ⊥) → CarriesAsTold begin M B status falls was now
   carried_as_told Status.Done h k read write disk = ended_so Status.Done tt h.0
   carried_as_told Status.ScriptFault h k read write disk = ended_so Status.ScriptFault tt h
   carried_as_told Status.Locked h k read write disk = ended_so Status.Locked tt h.0

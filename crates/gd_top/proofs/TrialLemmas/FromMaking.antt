@@ -248,7 +248,7 @@ module _ {V : Type 0} (was made : Moment V) (unarmed : was.disk.armed ≡ []) (m
     unmade_failed found printed = record {
       fault = refl;
       found = h.found ∙ found;
-      syncs = h.fewer;
+      left = h.fewer;
       armed = cuts_left faulted.done was.disk.armed made.disk.armed unarmed faulted.left;
       falls = fresh.falls;
       printed = printed;

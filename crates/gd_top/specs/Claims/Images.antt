@@ -13,7 +13,7 @@ use Rattle.gd_store.specs.Making.{IsMakingAny}
 use Rattle.gd_store.specs.Writing.{From}
 use Rattle.gd_store.specs.declared.copy.layout.TheConstants.{LAYOUT}
 use Rattle.gd_store.specs.declared.copy.states.Found.{Found}
-use Rattle.gd_top.specs.Claims.Trial.{GivesLast}
+use Rattle.gd_top.specs.Claims.Runs.{GivesLast}
 use Rattle.gd_top.specs.Report.Lines.{copy_text, differs_line, locked_line}
 use Rattle.gd_top.specs.declared.status.Status.{Status}
 

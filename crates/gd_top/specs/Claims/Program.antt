@@ -7,9 +7,9 @@ use Rattle.gd_disk.specs.Disk.{DiskState}
 use Rattle.gd_machine.specs.Meaning.{the_machine}
 use Rattle.gd_top.specs.Claims.Images.{CheckDid, InitDid, ShowDid, Tells}
 use Rattle.gd_top.specs.Claims.Refusals.{IsRefusedAs, names_setup, refusal_status, refusal_text}
+use Rattle.gd_top.specs.Claims.Runs.{GivesLast, IsEnd, Outer, TrialDone, outer}
 use Rattle.gd_top.specs.Claims.Setups.{IsGiven}
 use Rattle.gd_top.specs.Claims.Soak.{SoakDid}
-use Rattle.gd_top.specs.Claims.Trial.{GivesLast, IsEnd, Outer, TrialDone, outer}
 use Rattle.gd_top.specs.declared.command.refusal.Refusal.{Refusal}
 use Rattle.gd_top.specs.declared.status.Status.{Status}
 use Rattle.gd_words.specs.Meaning.{words_of}

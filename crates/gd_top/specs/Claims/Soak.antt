@@ -6,7 +6,7 @@ use Rattle.gd_disk.specs.Disk.{DiskState}
 use Rattle.gd_script.specs.Generated.{generated}
 use Rattle.gd_script.specs.declared.item.Item.{Item}
 use Rattle.gd_top.specs.Claims.MemoryLeft.{IsLeftBroken}
-use Rattle.gd_top.specs.Claims.Trial.{Outer, FirstLines, IsUnmade, IsWhole}
+use Rattle.gd_top.specs.Claims.Runs.{Outer, FirstLines, IsUnmade, IsWhole, trial_beginning}
 use Rattle.gd_top.specs.Run.Life.{soak_line, trial_meaning}
 use Rattle.gd_top.specs.Run.Starts.{starts_in}
 use Rattle.gd_top.specs.Run.State.{Part, On, Goes, Breaks}
@@ -26,11 +26,11 @@ pub record SoakedThrough {V : Type 0} (M : Machine V) (B : Blocks) (count seed :
   pub is_run : run ≡ trial_meaning M B (soak_lines count seed) falls (starts_in M new.found) None
   pub goes : run.outcome ≡ Goes
   pub on : run.state.phase ≡ On
-  pub whole : IsWhole M B run (alone old) (alone new)
+  pub whole : IsWhole (trial_beginning M) M B run (alone old) (alone new)
 
 -- the disk failed, in one of the items or before the first
 pub record SoakBroke {V : Type 0} (M : Machine V) (B : Blocks) (count seed : ℕ) (falls : List ℕ) (old new : DiskState) : Type 0 where
-  pub first : FirstLines M B (soak_lines count seed) falls (alone old) (alone new)
+  pub first : FirstLines (trial_beginning M) M B (soak_lines count seed) falls (alone old) (alone new)
   pub breaks : first.run.outcome ≡ Breaks
   pub left : IsUnmade (alone old) (alone new) ⊎ IsLeftBroken M first.run.state new
 

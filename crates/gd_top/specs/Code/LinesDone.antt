@@ -96,14 +96,19 @@ RunBy M B ended was stands old new disk left rest = DoneBy M B (run_meaning M B)
 abbrev pub made_outside : {V : Type 0} → Moment V → Outside
 made_outside was = record { found = []; taken = was.taken; falls = []; syncs = was.disk.syncs + first_syncs }
 
--- the making of the memory failed
-pub record IsFailedMaking {V : Type 0} (ended : Result (Unit {0}) Halt) (was now : Moment V) : Type 0 where
+-- The disk failed before the first opening of a run: nothing was found, and nothing printed. What else is known of the disk then is
+-- a parameter.
+pub record EndedBefore {V : Type 0} (Left : Type 0) (ended : Result (Unit {0}) Halt) (was now : Moment V) : Type 0 where
   pub fault : ended ≡ Err Halt.DiskFault
   pub found : now.disk.found ≡ []
-  pub syncs : now.disk.syncs < was.disk.syncs + first_syncs
+  pub left : Left
   pub armed : now.disk.armed ≡ []
   pub falls : now.counts.falls.items ≡ []
   pub printed : now.taken ≡ was.taken
+
+-- the making of the memory failed
+abbrev pub IsFailedMaking : {V : Type 0} → Result (Unit {0}) Halt → (was now : Moment V) → Type 0
+IsFailedMaking ended was now = EndedBefore (now.disk.syncs < was.disk.syncs + first_syncs) ended was now
 
 -- a whole run
 abbrev pub RunDone : {V : Type 0} → Result (Unit {0}) Halt → (was now : Moment V) → (left rest : Option (List ℕ)) → Type 0

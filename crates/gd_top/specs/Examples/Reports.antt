@@ -10,7 +10,7 @@ use Rattle.gd_top.specs.declared.status.Status.{Status}
 use Rattle.gd_top.specs.Run.Life.{report_at_read_fault, soak_line}
 use Rattle.gd_top.specs.Run.State.{Start}
 use Rattle.gd_top.specs.Examples.Toy.{View, toy}
-use Rattle.gd_top.specs.Examples.ToyRuns.{bill, off, on, clear, cut_sync, alter_a, view, start, both, made, once, lost, run, over_image, begins, plain, Gives}
+use Rattle.gd_top.specs.Examples.ToyRuns.{bill, off, on, clear, cut_sync, alter_a, view, start, both, made, once, lost, run, over_image, begins, plain, from_image, Gives}
 
 -- the lines of a report
 pub record PlainReports : Type 0 where
@@ -51,16 +51,16 @@ foreign = record { found = record { a = CopyState.Sound 2; b = CopyState.Sound 2
 -- isn't its sequence is locked. A full history has no start.
 pub record ImageReports : Type 0 where
   pub opened : Gives (over_image (bill 500 ∷ []) (both 2 (view 2 500 1 1)))
-      (codes "power 1: a sound 2, b sound 2\nstart at 3\nack bill 2 taken at 4\nend at 4 credit 1000\n") Status.Done (plain 2 0)
+      (codes "power 1: a sound 2, b sound 2\nstart at 3\nack bill 2 taken at 4\nend at 4 credit 1000\n") Status.Done (from_image 2)
   pub repaired : Gives (over_image [] (start (CopyState.Sound 1) (CopyState.Sound 2) 2 (view 2 500 1 1)))
-      (codes "power 1: a sound 1, b sound 2\nstart at 3 repaired a\nend at 3 credit 500\n") Status.Done (plain 1 0)
+      (codes "power 1: a sound 1, b sound 2\nstart at 3 repaired a\nend at 3 credit 500\n") Status.Done (from_image 1)
   pub cleared : Gives (over_image (bill 500 ∷ clear ∷ bill 500 ∷ []) lost)
-      (codes "power 1: a shut, b page 15\nlocked\nlocked\ncleared\npower 2: a sound 0, b sound 0\nstart at 1\nack bill 1 taken at 2\nend at 2 credit 500\n") Status.Done (record (plain 4 0) { other_locks = 1; laps = 1 })
-  pub off_under_lock : Gives (over_image (off ∷ []) lost) (codes "power 1: a shut, b page 15\nlocked\nline 1\n") Status.ScriptFault (record (plain 1 0) { other_locks = 1 })
-  pub cut_refused : Gives (over_image (cut_sync 1 ∷ []) (both 2 (view 2 500 1 1))) (codes "power 1: a sound 2, b sound 2\nstart at 3\nline 1\n") Status.ScriptFault (plain 1 0)
-  pub off_refused : Gives (over_image (off ∷ []) (both 2 (view 2 500 1 1))) (codes "power 1: a sound 2, b sound 2\nstart at 3\nline 1\n") Status.ScriptFault (plain 1 0)
-  pub other_count : Gives (over_image [] (both 2 once)) (codes "power 1: a sound 2, b sound 2\nlocked\nend locked\n") Status.Locked (record (plain 1 0) { other_locks = 1 })
+      (codes "power 1: a shut, b page 15\nlocked\nlocked\ncleared\npower 2: a sound 0, b sound 0\nstart at 1\nack bill 1 taken at 2\nend at 2 credit 500\n") Status.Done (record (from_image 4) { other_locks = 1; laps = 1 })
+  pub off_under_lock : Gives (over_image (off ∷ []) lost) (codes "power 1: a shut, b page 15\nlocked\nline 1\n") Status.ScriptFault (record (from_image 1) { other_locks = 1 })
+  pub cut_refused : Gives (over_image (cut_sync 1 ∷ []) (both 2 (view 2 500 1 1))) (codes "power 1: a sound 2, b sound 2\nstart at 3\nline 1\n") Status.ScriptFault (from_image 1)
+  pub off_refused : Gives (over_image (off ∷ []) (both 2 (view 2 500 1 1))) (codes "power 1: a sound 2, b sound 2\nstart at 3\nline 1\n") Status.ScriptFault (from_image 1)
+  pub other_count : Gives (over_image [] (both 2 once)) (codes "power 1: a sound 2, b sound 2\nlocked\nend locked\n") Status.Locked (record (from_image 1) { other_locks = 1 })
   pub other_setup : Gives (over_image (bill 500 ∷ []) foreign)
-      (codes "power 1: a sound 2, b sound 2\ndiffers kept 00ab given 0000000000000000000000000000000000000000000000000000000000000000\n") Status.SetupDiffers (record (plain 1 0) { other_views = 1 })
+      (codes "power 1: a sound 2, b sound 2\ndiffers kept 00ab given 0000000000000000000000000000000000000000000000000000000000000000\n") Status.SetupDiffers (record (from_image 1) { other_views = 1 })
   pub full : Gives (over_image (bill 500 ∷ Some (Item.As 7 (Event.Bill 500)) ∷ []) (both 68719476736 (view 68719476736 500 7 1)))
-      (codes "power 1: a sound 68719476736, b sound 68719476736\nfull bill\nagain bill 7 taken at 68719476736\nend at 68719476736 credit 500\n") Status.Done (plain 1 0)
+      (codes "power 1: a sound 68719476736, b sound 68719476736\nfull bill\nagain bill 7 taken at 68719476736\nend at 68719476736 credit 500\n") Status.Done (from_image 1)

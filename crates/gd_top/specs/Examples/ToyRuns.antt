@@ -120,6 +120,10 @@ counts_of s = record { forged = s.forged; other_views = s.other_views; other_loc
 abbrev pub plain : ℕ → ℕ → Counts
 plain offers fell = record { forged = 0; other_views = 0; other_locks = 0; laps = 0; fell = fell; offers = offers }
 
+-- so over an image, which counts as forged
+abbrev pub from_image : ℕ → Counts
+from_image offers = record (plain offers 0) { forged = 1 }
+
 -- the whole report, the status and the counts of a run
 pub record Gives (t : Part View) (report : List ℕ) (status : Status) (counts : Counts) : Type 0 where
   pub written : report_of toy t ≡ report

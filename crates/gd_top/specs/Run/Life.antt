@@ -12,7 +12,7 @@ use Rattle.gd_top.specs.Run.Items.{lines_meaning}
 use Rattle.gd_top.specs.Run.Openings.{Done, power_on}
 use Rattle.gd_top.specs.Run.State.{Nothing, Start, State, Part, Phase, On, Off, Locked, Outcome, Goes, Stops, Differs, Breaks, followed_by, over}
 
--- before the first power-on: the empty history
+-- before the first power-on, over the empty history
 abbrev pub unopened : {V : Type 0} → Machine V → Bool → List ℕ → List (Start V) → Option ℕ → State V
 unopened M is_trial falls starts broken_at = record {
   view = M.empty;
@@ -37,22 +37,30 @@ unopened M is_trial falls starts broken_at = record {
   is_trial = is_trial;
 }
 
+-- before the first power-on of a trial: the empty history
+abbrev pub of_trial : {V : Type 0} → Machine V → List ℕ → List (Start V) → Option ℕ → State V
+of_trial M falls starts broken_at = unopened M true falls starts broken_at
+
+-- Before the opening of an image: the view that it shows, or the empty one where it shows none. Nothing is known of how the image
+-- came to be, so it counts as forged.
+abbrev pub over_image : {V : Type 0} → Machine V → Start V → List ℕ → List (Start V) → Option ℕ → State V
+over_image M image falls starts broken_at = record (over (view_loaded M (opens M image.boots)) (unopened M false falls starts broken_at)) { forged = 1 }
+
 -- the opening, and then the lines
 abbrev pub run_meaning : {V : Type 0} → Machine V → Blocks → List (Option Item) → State V → Part V
 run_meaning M blocks lines s = followed_by (power_on M blocks Nothing Done s) (λ u. lines_meaning M blocks lines u)
 
 -- what a trial prints and leaves, once its first memory was made
 abbrev pub trial_meaning : {V : Type 0} → Machine V → Blocks → List (Option Item) → List ℕ → List (Start V) → Option ℕ → Part V
-trial_meaning M blocks lines falls starts broken_at = run_meaning M blocks lines (unopened M true falls starts broken_at)
+trial_meaning M blocks lines falls starts broken_at = run_meaning M blocks lines (of_trial M falls starts broken_at)
 
--- A run over an image begins with the view that the image shows, or the empty one where it shows none. The power stays on, so that at most one memory is
--- cleared; in the one that is made both copies are sound at 0.
+-- In a run over an image the power stays on, so that at most one memory is cleared; in the one that is made both copies are sound
+-- at 0.
 abbrev pub made_memory : {V : Type 0} → Machine V → Start V
 made_memory M = record { found = record { a = CopyState.Sound 0; b = CopyState.Sound 0 }; behind = record { a = CopyState.Sound 0; b = CopyState.Sound 0 }; boots = Some (0, Shows M.empty) }
 
 abbrev pub image_meaning : {V : Type 0} → Machine V → Blocks → List (Option Item) → Start V → Option ℕ → Part V
-image_meaning M blocks lines image broken_at =
-    run_meaning M blocks lines (over (view_loaded M (opens M image.boots)) (unopened M false [] (image ∷ made_memory M ∷ []) broken_at))
+image_meaning M blocks lines image broken_at = run_meaning M blocks lines (over_image M image [] (image ∷ made_memory M ∷ []) broken_at)
 
 -- ================ the end
 

@@ -7,7 +7,7 @@ ghost use Rattle.gd_disk.specs.Disk.{IsSynced};
 ghost use Rattle.gd_image.specs.Words.{platform_setup, platform_view};
 ghost use Rattle.gd_machine.specs.Meaning.{the_machine};
 ghost use Rattle.gd_top.specs.Claims.MemoryLeft.{IsAtRest, IsSettled};
-ghost use Rattle.gd_top.specs.Claims.Trial.{outer, status_after, last_text, GivesLast, HasCauses, TrialDone};
+ghost use Rattle.gd_top.specs.Claims.Runs.{outer, status_after, last_text, GivesLast, HasCauses, TrialDone};
 ghost use Rattle.gd_top.specs.Code.LinesDone.{RunDone};
 ghost use Rattle.gd_top.specs.Code.Memory.{memory_core, memory_disk, memory_draws, memory_phase, memory_stopped, moment, moment_closed, IsFresh, Leaves};
 ghost use Rattle.gd_top.specs.Run.Life.{end_line, end_status};

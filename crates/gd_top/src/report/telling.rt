@@ -2,7 +2,7 @@
 
 ghost use Rattle.std.specs.Prelude.{◌≡◌, ◌⊎◌, ◌≤◌};
 ghost use Rattle.gd_base.specs.Outside.Causes.{Rose};
-ghost use Rattle.gd_top.specs.Claims.Trial.{GivesLast};
+ghost use Rattle.gd_top.specs.Claims.Runs.{GivesLast};
 
 use crate::report::lines::give_text;
 use crate::status::Status;

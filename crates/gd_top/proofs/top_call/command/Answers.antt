@@ -3,8 +3,8 @@ use Rattle.gd_image.specs.Words.{platform_setup}
 use Rattle.gd_machine.specs.Meaning.{the_machine}
 use Rattle.gd_top.specs.Claims.Images.{ShowDid, Tells}
 use Rattle.gd_top.specs.Claims.Program.{CommandDone}
+use Rattle.gd_top.specs.Claims.Runs.{outer}
 use Rattle.gd_top.specs.Claims.Soak.{SoakDid}
-use Rattle.gd_top.specs.Claims.Trial.{outer}
 use Rattle.gd_top.specs.declared.status.Status.{Status}
 use Rattle.gd_words.specs.declared.words.Command.{Command}
 use Rattle.gd_top.proofs.top_call.command.Goals as goal

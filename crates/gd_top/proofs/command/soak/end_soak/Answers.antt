@@ -1,7 +1,7 @@
 use Rattle.std.proofs.Common.{◌≡◌, ◌∙◌, ap, sym, subst, ℕ, List, ◌++◌, codes, Result, Err}
 use Rattle.gd_image.specs.Words.{platform_setup, platform_view}
 use Rattle.gd_machine.specs.Meaning.{the_machine}
-use Rattle.gd_top.specs.Claims.Trial.{GivesLast}
+use Rattle.gd_top.specs.Claims.Runs.{GivesLast}
 use Rattle.gd_top.specs.Code.Memory.{memory_core}
 use Rattle.gd_top.specs.Code.SoakDone.{soak_status, soak_text}
 use Rattle.gd_top.specs.declared.halt.Halt.{Halt}

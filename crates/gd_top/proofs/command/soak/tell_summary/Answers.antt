@@ -2,7 +2,7 @@ use Rattle.std.proofs.Common.{◌≡◌, ◌∙◌, ap, sym, subst, refl, inr, �
 use Rattle.gd_base.specs.declared.step.What.{What}
 use Rattle.gd_image.specs.Words.{platform_setup, platform_view}
 use Rattle.gd_machine.specs.Meaning.{the_machine}
-use Rattle.gd_top.specs.Claims.Trial.{GivesLast}
+use Rattle.gd_top.specs.Claims.Runs.{GivesLast}
 use Rattle.gd_top.specs.Code.Parts.{GivesText}
 use Rattle.gd_top.specs.Report.Lines.{totals_line}
 use Rattle.gd_top.specs.declared.status.Status.{Status}

@@ -4,7 +4,7 @@ use Rattle.gd_image.specs.Words.{platform_setup, platform_view}
 use Rattle.gd_machine.specs.Meaning.{the_machine}
 use Rattle.gd_machine.proofs.Telling.{machine_tells}
 use Rattle.gd_top.specs.Claims.MemoryLeft.{IsAtRest}
-use Rattle.gd_top.specs.Claims.Trial.{outer, HasCauses, TrialDone}
+use Rattle.gd_top.specs.Claims.Runs.{outer, HasCauses, TrialDone}
 use Rattle.gd_top.specs.Code.Memory.{memory_disk, memory_phase, moment, moment_closed}
 use Rattle.gd_top.specs.Run.State.{Off}
 use Rattle.gd_top.proofs.TrialLemmas.Ends.{causes}
