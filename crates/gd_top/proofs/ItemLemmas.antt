@@ -1,6 +1,7 @@
 -- What a line does to the memory.
 pub mod Images
 pub mod Events
+pub mod Asked
 pub mod Opening
 pub mod PowerLines
 pub mod Lines

@@ -6,6 +6,7 @@ mod LineLemmas
 mod TrialLemmas
 mod SetupLemmas
 mod ImageLemmas
+mod OverLemmas
 mod ProgramLemmas
 mod SoakLemmas
 mod ExampleLemmas

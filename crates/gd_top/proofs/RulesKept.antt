@@ -1,10 +1,11 @@
--- The view of each legal history from nothing keeps all rules of a view, and its payload spells it.
+-- The view of each legal history from nothing keeps all rules of a view, and its payload spells it. So it is with the empty view.
 use Rattle.std.proofs.Common.{◌≡◌, refl, List, [], ◌∷◌}
 use Rattle.gd_base.specs.declared.setup.Setup.{Setup}
 use Rattle.gd_base.specs.Histories.Entry.{Entry}
 use Rattle.gd_base.specs.Histories.View.{View}
 use Rattle.gd_base.specs.Histories.ViewOf.{empty_view}
 use Rattle.gd_base.specs.Judging.Legal.{view_over}
+use Rattle.gd_base.specs.Laws.TellsViews.{HasPayload}
 use Rattle.gd_base.specs.Payloads.Bytes.{payload_of}
 use Rattle.gd_base.specs.Payloads.Lists.{lists_of}
 use Rattle.gd_base.specs.Payloads.Loading.{spelled}
@@ -33,3 +34,9 @@ spells_each setup whole = λ blocks lap past are widths legal.
       under = kept.1;
       spelled = by_parts setup digest (payload_of v) v kept.0 kept.1 (same_digest setup opening past) refl (has_them (payload_of v) (lists_of v) (has_its_lists v kept.0));
     }
+
+-- a payload spells the empty view
+pub spells_empty : (setup : Setup) → IsWhole setup (the_machine setup).empty → HasPayload (the_machine setup) (the_machine setup).empty
+spells_empty setup whole =
+    let v = empty_view (digest_of setup) in
+    (payload_of v, by_parts setup (digest_of setup) (payload_of v) v whole.possible whole.under refl refl (has_them (payload_of v) (lists_of v) (has_its_lists v whole.possible)))

@@ -1,5 +1,6 @@
 -- What the public calls claim.
 pub mod AllRules
+pub mod ImageRuns
 pub mod Images
 pub mod MemoryLeft
 pub mod NothingLost

@@ -3,6 +3,7 @@ pub mod Falls
 pub mod LinesDone
 pub mod Memory
 pub mod Named
+pub mod OverImage
 pub mod Parts
 pub mod SoakDone
 pub mod Standing

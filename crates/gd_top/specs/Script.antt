@@ -2,3 +2,4 @@
 pub mod Lines
 pub mod LineTaken
 pub mod Kinds
+pub mod Asked

@@ -2,6 +2,7 @@
 
 pub(crate) mod altering;
 pub(crate) mod arming;
+pub(crate) mod asking;
 pub(crate) mod clearing;
 mod emptiness;
 pub(crate) mod event;

@@ -5,6 +5,7 @@ mod command;
 mod core_call;
 mod ended;
 mod halt;
+mod image;
 mod item;
 mod laws;
 mod memory;

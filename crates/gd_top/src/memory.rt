@@ -1,24 +1,24 @@
-//! The memory of a trial, and what is counted of it.
+//! The memory of a run, and what is counted of it.
 
 pub(crate) mod counts;
 pub(crate) mod making;
 
 use gd_base::{Core, Draws};
 use gd_cabinet::{Cabinet, Parts};
-use gd_disk::LabDisk;
+use gd_disk::Disk;
 
 /// The most power-ons of a trial.
 pub const MOST_POWER_ONS: u64 = 256;
 
 const _: () = prove!(MOST_POWER_ONS == 256);
 
-/// The memory of a trial, between two lines.
+/// The memory of a run, between two lines.
 #[derive(Drop)]
-pub(crate) enum Memory<C: Core, L: LabDisk, W: Draws> {
+pub(crate) enum Memory<C: Core, D: Disk, W: Draws> {
     /// Open, with the power on.
-    On(Cabinet<C, L, W>),
+    On(Cabinet<C, D, W>),
     /// Closed, with the power off.
-    Off(Parts<C, L, W>),
+    Off(Parts<C, D, W>),
     /// Closed, with the power on over a memory that can't be opened.
-    Locked(Parts<C, L, W>),
+    Locked(Parts<C, D, W>),
 }

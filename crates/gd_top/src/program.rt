@@ -7,12 +7,15 @@ ghost use Rattle.gd_base.specs.Outside.Causes.{Rose};
 ghost use Rattle.gd_base.specs.Outside.KeyStream.{seeded_block};
 ghost use Rattle.gd_disk.specs.Memory.{lab_state};
 ghost use Rattle.gd_disk.specs.declared.lengths.TheConstants.{DISK_LEN};
-ghost use Rattle.gd_top.specs.Claims.Program.{asked, world, IsCarriedOut, IsRefused};
+ghost use Rattle.gd_store.specs.OpenAnswer.{IsOpenable};
+ghost use Rattle.gd_top.specs.Claims.ImageRuns.{TellsImages};
+ghost use Rattle.gd_top.specs.Claims.Program.{world, IsCarriedOut, IsRefused};
 ghost use Rattle.gd_top.specs.Claims.Refusals.{refusal_text};
 ghost use Rattle.gd_top.specs.Claims.Runs.{GivesLast};
 ghost use Rattle.gd_top.specs.Code.Named.{seed_named};
 ghost use Rattle.gd_top.specs.Report.StatusNumber.{status_number};
 ghost use Rattle.gd_words.specs.CommandLine.{texts};
+ghost use Rattle.gd_words.specs.Meaning.{words_of};
 
 mod files;
 
@@ -164,10 +167,11 @@ fn carry_out<S: Source, C: Source, K: Sink, D: Disk + Drop>(
     seed: u64,
 ) -> Result<Ended<MemoryLab, D, ChaChaDraws>, AllocError>
     requires size { (D.state disk).size ≡ DISK_LEN }
-    ensures done { IfOk result (λ ended. (lab : MemoryLab) × (IsRefused (asked (texts words.now)) ended.status
+    requires openable { IsOpenable (D.state disk) }
+    ensures done { IfOk result (λ ended. (lab : MemoryLab) × (IsRefused (words_of (texts words.now)) ended.status
         (world C.left C.faults S.left S.faults K.taken K.faults lab_state D.state setup.old input.old output.old lab disk)
         (world C.left C.faults S.left S.faults K.taken K.faults lab_state D.state setup.new input.new output.new ended.lab ended.disk)
-        ⊎ IsCarriedOut (asked (texts words.now)) (seeded_block seed) ended.status ended.falls.items
+        ⊎ IsCarriedOut (TellsImages D.state) (words_of (texts words.now)) (seeded_block seed) ended.status ended.falls.items
         (world C.left C.faults S.left S.faults K.taken K.faults lab_state D.state setup.old input.old output.old lab disk)
         (world C.left C.faults S.left S.faults K.taken K.faults lab_state D.state setup.new input.new output.new ended.lab ended.disk))) }
     ensures unmade { IsErr result

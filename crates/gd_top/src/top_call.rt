@@ -5,16 +5,20 @@ ghost use Rattle.gd_base.specs.Outside.Blocks.{AreBlocks};
 ghost use Rattle.gd_base.specs.Outside.Causes.{Rose};
 ghost use Rattle.gd_image.specs.Words.{platform_setup, platform_view};
 ghost use Rattle.gd_machine.specs.Meaning.{the_machine};
-ghost use Rattle.gd_top.specs.Claims.Program.{asked, asks, asks_setup, in_image, in_lab, is_built, reads_script, world, CanEndAs, CommandCauses, CommandDone, HasNotFailed, HasReasons, IsCarriedOut, IsRefused};
+ghost use Rattle.gd_store.specs.OpenAnswer.{IsOpenable};
+ghost use Rattle.gd_top.specs.Claims.ImageRuns.{TellsImages};
+ghost use Rattle.gd_top.specs.Claims.Program.{asks, asks_setup, in_image, in_lab, plays, reads_script, world, CanEndAs, CommandCauses, CommandDone, HasNotFailed, HasReasons, IsCarriedOut, IsRefused};
 ghost use Rattle.gd_top.specs.Claims.Refusals.{names_setup, refusal_status, refusal_text};
 ghost use Rattle.gd_top.specs.Claims.Runs.{outer, GivesLast};
 ghost use Rattle.gd_top.specs.Claims.Setups.{TookFront};
 ghost use Rattle.gd_words.specs.CommandLine.{texts};
+ghost use Rattle.gd_words.specs.Meaning.{words_of};
 ghost use Rattle.gd_words.specs.Table.{InRange};
 
 use crate::command::check::check;
 use crate::command::init::init;
 use crate::command::refusal::Refusal;
+use crate::command::run::run_image;
 use crate::command::setup::given_setup;
 use crate::command::show::show;
 use crate::command::soak::run_soak;
@@ -48,69 +52,55 @@ pub fn cabinet<S: Source, C: Source, K: Sink, L: LabDisk, D: Disk, W: Draws>(
 ) -> Ended<L, D, W>
     requires lab_size { (L.state lab).size ≡ DISK_LEN }
     requires disk_size { (D.state disk).size ≡ DISK_LEN }
+    requires openable { IsOpenable (D.state disk) }
     requires is_on { (L.state lab).is_on ≡ true }
     requires armed { (L.state lab).armed ≡ [] }
     requires found { (L.state lab).found ≡ [] }
     // It ended before anything was made or opened, or it did what the words say, under the setup that holds.
-    ensures done { (IsRefused (asked (texts words.now)) result.status
+    ensures done { (IsRefused (words_of (texts words.now)) result.status
         (world C.left C.faults S.left S.faults K.taken K.faults L.state D.state setup.old input.old output.old lab disk)
         (world C.left C.faults S.left S.faults K.taken K.faults L.state D.state setup.new input.new output.new result.lab result.disk)
         × (input.new ≡ input.old) × (result.lab ≡ lab) × (result.disk ≡ disk) × (result.draws ≡ draws) × (result.falls.items ≡ []))
-        ⊎ IsCarriedOut (asked (texts words.now)) (W.block_of draws) result.status result.falls.items
+        ⊎ IsCarriedOut (TellsImages D.state) (words_of (texts words.now)) (W.block_of draws) result.status result.falls.items
         (world C.left C.faults S.left S.faults K.taken K.faults L.state D.state setup.old input.old output.old lab disk)
         (world C.left C.faults S.left S.faults K.taken K.faults L.state D.state setup.new input.new output.new result.lab result.disk) }
     // 3, 4 and 5 come only where a count of what failed rose.
-    ensures causes { HasReasons (asked (texts words.now)) result.status
+    ensures causes { HasReasons (words_of (texts words.now)) result.status
         (world C.left C.faults S.left S.faults K.taken K.faults L.state D.state setup.old input.old output.old lab disk)
         (world C.left C.faults S.left S.faults K.taken K.faults L.state D.state setup.new input.new output.new result.lab result.disk) }
     // Where none rose, it ends as its row can, by the causes that are told above.
-    ensures complete { HasNotFailed (asked (texts words.now))
+    ensures complete { HasNotFailed (words_of (texts words.now))
         (world C.left C.faults S.left S.faults K.taken K.faults L.state D.state setup.old input.old output.old lab disk)
         (world C.left C.faults S.left S.faults K.taken K.faults L.state D.state setup.new input.new output.new result.lab result.disk)
-        → CanEndAs (asked (texts words.now)) result.status }
+        → CanEndAs (words_of (texts words.now)) result.status }
     // What a command doesn't ask for stands.
-    ensures unread { asks reads_script (asked (texts words.now)) ≡ false → input.new ≡ input.old }
-    ensures lab { asks in_lab (asked (texts words.now)) ≡ false → (result.lab ≡ lab) × (result.draws ≡ draws) × (result.falls.items ≡ []) }
-    ensures disk { asks in_image (asked (texts words.now)) ≡ false → result.disk ≡ disk }
-    ensures setup { asks_setup (asked (texts words.now)) ≡ false → setup.new ≡ setup.old }
+    ensures unread { asks reads_script (words_of (texts words.now)) ≡ false → input.new ≡ input.old }
+    ensures lab { asks in_lab (words_of (texts words.now)) ≡ false → (result.lab ≡ lab) × (result.falls.items ≡ []) }
+    ensures draws { asks plays (words_of (texts words.now)) ≡ false → result.draws ≡ draws }
+    ensures disk { asks in_image (words_of (texts words.now)) ≡ false → result.disk ≡ disk }
+    ensures setup { asks_setup (words_of (texts words.now)) ≡ false → setup.new ≡ setup.old }
     // Of a setup at most so many bytes are taken.
     ensures few { TookFront (C.left setup.old) (C.left setup.new) }
     // The blocks are such that each legal history keeps all rules of a view (`all_rules_kept`).
     ensures blocks { AreBlocks (W.block_of draws) }
 {
-    match asked_words(alloc, words) {
+    match said_words(alloc, words) {
         Ok(said) => carry_out(alloc, said, input, setup, output, lab, disk, draws),
         Err(why) => refuse(why, output, lab, disk, draws),
     }
 }
 
 /// What the words say. They are refused where they are in no row, or memory is wanted to read them.
-fn asked_words(alloc: Global, words: &[&str]) -> Result<Words, Refusal>
-    ensures said { IfOk result (λ said. asked (texts words.now) ≡ Some said) }
+fn said_words(alloc: Global, words: &[&str]) -> Result<Words, Refusal>
+    ensures said { IfOk result (λ said. words_of (texts words.now) ≡ Some said) }
     ensures range { IfOk result (λ said. InRange said.command) }
     ensures refused { IfErr result (λ why. (why ≡ Refusal.OutOfMemory)
-        ⊎ ((why ≡ Refusal.Usage) × (asked (texts words.now) ≡ None))) }
+        ⊎ ((why ≡ Refusal.Usage) × (words_of (texts words.now) ≡ None))) }
 {
     match read_words(alloc, words) {
-        Ok(said) => {
-            if is_built(&said.command) {
-                Ok(said)
-            } else {
-                Err(Refusal::Usage)
-            }
-        }
+        Ok(said) => Ok(said),
         Err(WordsError::Usage) => Err(Refusal::Usage),
         Err(WordsError::OutOfMemory) => Err(Refusal::OutOfMemory),
-    }
-}
-
-/// Whether the command's row is built.
-fn is_built(command: &Command) -> bool
-    ensures { result ≡ is_built command.now }
-{
-    match command {
-        Command::Run { .. } => false,
-        _ => true,
     }
 }
 
@@ -156,10 +146,10 @@ fn carry_out<S: Source, C: Source, K: Sink, L: LabDisk, D: Disk, W: Draws>(
     disk: D,
     draws: W,
 ) -> Ended<L, D, W>
-    requires built { is_built said.command ≡ true }
     requires range { InRange said.command }
     requires lab_size { (L.state lab).size ≡ DISK_LEN }
     requires disk_size { (D.state disk).size ≡ DISK_LEN }
+    requires openable { IsOpenable (D.state disk) }
     requires is_on { (L.state lab).is_on ≡ true }
     requires armed { (L.state lab).armed ≡ [] }
     requires found { (L.state lab).found ≡ [] }
@@ -167,7 +157,7 @@ fn carry_out<S: Source, C: Source, K: Sink, L: LabDisk, D: Disk, W: Draws>(
         (world C.left C.faults S.left S.faults K.taken K.faults L.state D.state setup.old input.old output.old lab disk)
         (world C.left C.faults S.left S.faults K.taken K.faults L.state D.state setup.new input.new output.new result.lab result.disk)
         × (input.new ≡ input.old) × (result.lab ≡ lab) × (result.disk ≡ disk) × (result.draws ≡ draws) × (result.falls.items ≡ []))
-        ⊎ IsCarriedOut (Some said) (W.block_of draws) result.status result.falls.items
+        ⊎ IsCarriedOut (TellsImages D.state) (Some said) (W.block_of draws) result.status result.falls.items
         (world C.left C.faults S.left S.faults K.taken K.faults L.state D.state setup.old input.old output.old lab disk)
         (world C.left C.faults S.left S.faults K.taken K.faults L.state D.state setup.new input.new output.new result.lab result.disk) }
     ensures causes { HasReasons (Some said) result.status
@@ -178,7 +168,8 @@ fn carry_out<S: Source, C: Source, K: Sink, L: LabDisk, D: Disk, W: Draws>(
         (world C.left C.faults S.left S.faults K.taken K.faults L.state D.state setup.new input.new output.new result.lab result.disk)
         → CanEndAs (Some said) result.status }
     ensures unread { reads_script said.command ≡ false → input.new ≡ input.old }
-    ensures lab { in_lab said.command ≡ false → (result.lab ≡ lab) × (result.draws ≡ draws) × (result.falls.items ≡ []) }
+    ensures lab { in_lab said.command ≡ false → (result.lab ≡ lab) × (result.falls.items ≡ []) }
+    ensures draws { plays said.command ≡ false → result.draws ≡ draws }
     ensures disk { in_image said.command ≡ false → result.disk ≡ disk }
     ensures setup { names_setup said ≡ false → setup.new ≡ setup.old }
     ensures few { TookFront (C.left setup.old) (C.left setup.new) }
@@ -204,15 +195,15 @@ fn command<S: Source, K: Sink, L: LabDisk, D: Disk, W: Draws>(
     disk: D,
     draws: W,
 ) -> Ended<L, D, W>
-    requires built { is_built command ≡ true }
     requires range { InRange command }
     requires empty { platform_view core ≡ (the_machine (platform_setup core)).empty }
     requires lab_size { (L.state lab).size ≡ DISK_LEN }
     requires disk_size { (D.state disk).size ≡ DISK_LEN }
+    requires openable { IsOpenable (D.state disk) }
     requires is_on { (L.state lab).is_on ≡ true }
     requires armed { (L.state lab).armed ≡ [] }
     requires found { (L.state lab).found ≡ [] }
-    ensures done { CommandDone (the_machine (platform_setup core)) (W.block_of draws) command result.status result.falls.items
+    ensures done { CommandDone (TellsImages D.state) (the_machine (platform_setup core)) (W.block_of draws) command result.status result.falls.items
         (outer S.left S.faults K.taken K.faults L.state input.old output.old lab)
         (outer S.left S.faults K.taken K.faults L.state input.new output.new result.lab)
         (D.state disk) (D.state result.disk) }
@@ -221,7 +212,8 @@ fn command<S: Source, K: Sink, L: LabDisk, D: Disk, W: Draws>(
         (outer S.left S.faults K.taken K.faults L.state input.new output.new result.lab)
         (D.state disk) (D.state result.disk) }
     ensures unread { reads_script command ≡ false → input.new ≡ input.old }
-    ensures lab { in_lab command ≡ false → (result.lab ≡ lab) × (result.draws ≡ draws) × (result.falls.items ≡ []) }
+    ensures lab { in_lab command ≡ false → (result.lab ≡ lab) × (result.falls.items ≡ []) }
+    ensures draws { plays command ≡ false → result.draws ≡ draws }
     ensures disk { in_image command ≡ false → result.disk ≡ disk }
 {
     match command {
@@ -257,7 +249,16 @@ fn command<S: Source, K: Sink, L: LabDisk, D: Disk, W: Draws>(
             };
             end_carried(run_soak(parts, count, seed, output), disk)
         }
-        Command::Run { .. } => unreachable!(),
+        Command::Run { .. } => {
+            let parts = Parts {
+                core,
+                disk,
+                draws,
+                room,
+            };
+            let (status, disk, draws) = run_image(parts, input, output);
+            end_beside(status, lab, disk, draws)
+        }
     }
 }
 

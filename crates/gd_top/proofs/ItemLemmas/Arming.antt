@@ -70,6 +70,8 @@ module _ {V : Type 0} (M : Machine V) (v : V) (masks : List Mask) (old new : Dis
 
 -- nothing but that was done
 pub record ArmsOne {V : Type 0} (cut : ArmedCut) (was now : Moment V) : Type 0 where
+  pub was_trial : was.is_trial ≡ true
+  pub trial : now.is_trial ≡ was.is_trial
   pub machine : now.machine ≡ was.machine
   pub blocks : (lap index : ℕ) → now.blocks lap index ≡ was.blocks lap index
   pub view : now.view ≡ was.view
@@ -93,9 +95,9 @@ pub record ArmsOne {V : Type 0} (cut : ArmedCut) (was now : Moment V) : Type 0 w
 
 module _ {V : Type 0} (cut : ArmedCut) (was : Moment V) where
   -- at the limit
-  pub arm_stops : nat_le MOST_POWER_ONS (was.counts.power_ons + length was.counts.calls.items) ≡ true → Sits was
+  pub arm_stops : was.is_trial ≡ true → nat_le MOST_POWER_ONS (was.counts.power_ons + length was.counts.calls.items) ≡ true → Sits was
       → Does (λ M B. item_meaning M B (Item.Cut cut.unit cut.count cut.torn)) (Err Halt.ScriptFault) was was
-  arm_stops limit sits =
+  arm_stops trial limit sits =
       let M = was.machine in
       let B = was.blocks in
       record {
@@ -103,7 +105,7 @@ module _ {V : Type 0} (cut : ArmedCut) (was : Moment V) where
           s,
           (λ serves. fits),
           stops_here M (item_meaning M B (Item.Cut cut.unit cut.count cut.torn)) s (outside was)
-              (λ x. cut_stops M B was.lap cut s x (ap (nat_le MOST_POWER_ONS) (limit_is was s sits fits) ∙ limit)),
+              (λ x. cut_stops M B was.lap cut s x (fits.trial ∙ trial) (ap (nat_le MOST_POWER_ONS) (limit_is was s sits fits) ∙ limit)),
         );
         leaves = record {
           sits = λ serves. sits;
@@ -121,6 +123,7 @@ module _ {V : Type 0} (cut : ArmedCut) (was : Moment V) where
     arm_fits : (s : Standing V) → Fits s was → Fits (armed_after was.machine was.blocks was.lap cut s) now
     arm_fits s fits = record {
       phase = fits.phase ∙ sym arms.phase;
+      trial = fits.trial ∙ sym arms.trial;
       known = subst (λ (p : Phase). IsKnownIn p s.view s.masks now.view) (sym arms.phase) (subst (λ (v : V). IsKnownIn was.phase s.view s.masks v) (sym arms.view) fits.known);
       lines = fits.lines ∙ sym arms.lines;
       power_ons = fits.power_ons ∙ sym arms.power_ons;
@@ -177,7 +180,7 @@ module _ {V : Type 0} (cut : ArmedCut) (was : Moment V) where
                 (λ serves. arm_fits s fits),
                 said M r (item_meaning M B (Item.Cut cut.unit cut.count cut.torn)) s t (outside was) (outside now) now.disk (codes "armed\n") arms.found arms.falls
                     (moves_on s t (outside was) (outside now) (omega arith) (omega arith) (ap (λ (n : ℕ). n + s.syncs) arms.kept.syncs))
-                    (λ x whole. cut_tells M B was.lap cut s x (ap (nat_le MOST_POWER_ONS) (limit_is was s sits fits) ∙ test)) fits.explained
+                    (λ x whole. cut_tells M B was.lap cut s x (fits.trial ∙ arms.was_trial) (ap (nat_le MOST_POWER_ONS) (limit_is was s sits fits) ∙ test)) fits.explained
                     (armed_length t.armed now.disk.armed (arm_fits s fits).armed)
                     (subst (λ (p : Phase). IsLeftIn M p s.view s.masks now.disk) (sym fits.phase) (left_as M s.view s.masks was.disk now.disk arms.loss arms.found was.phase fits.holds))
                     given,

@@ -1,5 +1,5 @@
 -- The clearing of a locked memory: what it tells, and where it ends.
-use Rattle.std.proofs.Common.{◌≡◌, ◌∙◌, ap, sym, subst, refl, inl, inr, ◌⊎◌, ⊎_elim, ℕ, ◌+◌, ◌<◌, ◌≤◌, ◌==◌, nat_le, Bool, true, false, append-nil, append_assoc, if◌then◌else◌, List, [], ◌∷◌, ◌++◌, length, arith, codes, Option, None, Some, Result, Ok, Err}
+use Rattle.std.proofs.Common.{◌≡◌, ◌∙◌, ap, sym, subst, refl, inl, inr, ◌⊎◌, ⊎_elim, ℕ, ◌+◌, ◌<◌, ◌≤◌, ◌==◌, nat_le, ◌&&◌, Bool, true, false, append-nil, append_assoc, if◌then◌else◌, List, [], ◌∷◌, ◌++◌, length, arith, codes, Option, None, Some, Result, Ok, Err, OnErr, is_err}
 use Rattle.std.proofs.lemmas.Bool.Decides.{nat_tests}
 use Rattle.std.proofs.KnownBytes.{Appends-nil}
 use Rattle.std.specs.Io.KnownBytes.{Appends}
@@ -21,11 +21,11 @@ use Rattle.gd_store.specs.declared.copy.layout.TheConstants.{LAYOUT}
 use Rattle.gd_top.specs.Code.Falls.{fall_of, falls_by}
 use Rattle.gd_top.specs.Run.Offers.{syncs_of_making}
 use Rattle.gd_top.specs.declared.memory.counts.Counts.{Counts}
-use Rattle.gd_top.specs.Run.Items.{clear_meaning, item_meaning}
+use Rattle.gd_top.specs.Run.Items.{at_limit, clear_meaning, item_meaning}
 use Rattle.gd_top.specs.declared.memory.TheConstants.{MOST_POWER_ONS}
 use Rattle.gd_top.specs.Claims.MemoryLeft.{IsExplained, IsLeftIn, IsMasked, IsOfMaking, IsShut}
-use Rattle.gd_top.specs.Code.Memory.{Moment, Does, Fits, FitsDown, IsKnownIn, IsMade, IsMakingOver, OpensTo, Opens, Sits, Reopens, Serves, as_opened, is_of_making, outside, stands_with}
-use Rattle.gd_top.specs.Code.Parts.{Outside, CarriesBy, Pending, Unwritten}
+use Rattle.gd_top.specs.Code.Memory.{Moment, Does, Leaves, Fits, FitsDown, IsKnownIn, IsMade, IsMakingOver, OpensTo, Opens, Sits, Reopens, Serves, as_opened, is_of_making, outside, stands_with}
+use Rattle.gd_top.specs.Code.Parts.{Outside, CarriesBy, GivesText, Pending, Unwritten}
 use Rattle.gd_top.specs.Code.Standing.{Standing, Later, at, only}
 use Rattle.gd_top.specs.Run.Openings.{Done, Cleared, make, power_on}
 use Rattle.gd_top.specs.Run.State.{Flight, Nothing, Phase, On, Off, Locked, State, Part, before, breaks, is_powered, prints, ends, Stops, Making}
@@ -34,8 +34,8 @@ use Rattle.gd_top.specs.declared.item.opening.Opened.{Opened}
 use Rattle.gd_top.proofs.LineLemmas.Alike.{alike_by}
 use Rattle.gd_top.proofs.RunLemmas.Equations.{clear_is, no_start}
 use Rattle.gd_top.proofs.RunLemmas.Parts.{broken_then, differing_then, pending_then, then_by, unwritten_then}
-use Rattle.gd_top.proofs.RunLemmas.Said.{ends_nowhere, found_none, err_is, moves_not, moves_on, stops_here}
-use Rattle.gd_top.proofs.RunLemmas.Cuts.{armed_faulted, armed_used, armed_whole, falls_are}
+use Rattle.gd_top.proofs.RunLemmas.Said.{ends_nowhere, found_none, err_is, err_of, unwritten_of, moves_not, moves_on, stops_here}
+use Rattle.gd_top.proofs.RunLemmas.Cuts.{armed_faulted, armed_length, armed_used, armed_whole, falls_are}
 use Rattle.gd_top.proofs.RunLemmas.OffersAt.{after_fall, after_offer, fall_moves}
 use Rattle.gd_top.proofs.ItemLemmas.Images.{both_alike, unmasked}
 use Rattle.gd_top.proofs.ItemLemmas.Lines.{limit_is}
@@ -84,6 +84,7 @@ module _ {V : Type 0} (M : Machine V) (B : Blocks) (s : Standing V) where
 -- a closed memory that fits is one before an opening
 pub as_down : {V : Type 0} (s : Standing V) (m : Moment V) → m.phase ≡ Off → Fits s m → FitsDown Nothing s m
 as_down {V} s m is fits = record {
+  trial = fits.trial;
   lines = fits.lines;
   power_ons = fits.power_ons;
   lap = fits.lap;
@@ -100,7 +101,7 @@ as_down {V} s m is fits = record {
 
 module _ {V : Type 0} (was mid : Moment V) where
   -- how the openings ended, as what a line tells that wants nothing more once the memory stands
-  opened_carries : (r : Result (Unit {0}) Halt) (now : Moment V) (flight : Flight) (tell : State V → Part V) (s t : Standing V)
+  pub opened_carries : (r : Result (Unit {0}) Halt) (now : Moment V) (flight : Flight) (tell : State V → Part V) (s t : Standing V)
       → (r ≡ Err Halt.ScriptFault → ⊥) → (r ≡ Err Halt.ReadFault → ⊥) → (r ≡ Ok tt → is_powered now.phase ≡ true)
       → Pending mid.machine tell (power_on mid.machine mid.blocks flight Done) s t (outside was) (outside mid) → OpensTo (as_opened r) flight Done t mid now
       → (u : Standing V) × (Serves r → Fits u now) × CarriesBy r mid.machine tell s u (outside was) (outside now) now.disk
@@ -122,32 +123,42 @@ module _ {V : Type 0} (was mid : Moment V) where
   opened_carries (Err Halt.SetupDiffers) now flight tell s t stop read powered p k =
       (k.0, (λ serves. absurd serves), differing_then mid.machine tell (power_on mid.machine mid.blocks flight Done) s t k.0 (outside was) (outside mid) (outside now) now.disk p k.1)
 
-  -- a part behind which openings follow
+  -- a part behind which an opening follows, or several
+  pub opened_from : (tell : Machine V → Blocks → State V → Part V) (r : Result (Unit {0}) Halt) (now : Moment V)
+      → mid.machine ≡ was.machine → ((lap index : ℕ) → mid.blocks lap index ≡ was.blocks lap index) → mid.disk.faults ≡ was.disk.faults → was.faults ≤ mid.faults
+      → Leaves r mid now → (r ≡ Err Halt.ScriptFault → ⊥) → (r ≡ Err Halt.ReadFault → ⊥) → (r ≡ Ok tt → is_powered now.phase ≡ true)
+      → ((s : Standing V) → Fits s was → (flight : Flight) × (t : Standing V)
+      × Pending mid.machine (tell mid.machine mid.blocks) (power_on mid.machine mid.blocks flight Done) s t (outside was) (outside mid) × OpensTo (as_opened r) flight Done t mid now)
+      → Does tell r was now
+  opened_from tell r now machine blocks faults later leaves no_stop no_read powered each = record {
+    carried = λ s fits.
+        let k = each s fits in
+        let q = opened_carries r now k.0 (tell mid.machine mid.blocks) s k.1 no_stop no_read powered k.2 k.3 in (
+          q.0,
+          q.1,
+          alike_by was.machine mid.machine was.blocks mid.blocks tell r s q.0 (outside was) (outside now) now.disk machine blocks q.2,
+        );
+    leaves = record {
+      sits = leaves.sits;
+      no_fault = λ serves. leaves.no_fault serves ∙ faults;
+      disk_fault = λ is. subst (λ (n : ℕ). Rose n now.disk.faults) faults (leaves.disk_fault is);
+      later = omega (arith, later, leaves.later);
+      write_fault = λ is. omega (arith, later, leaves.write_fault is);
+      machine = leaves.machine ∙ machine;
+      blocks = λ lap index. leaves.blocks lap index ∙ blocks lap index;
+    };
+    reads_nothing = no_read;
+  }
+
   pub opened_by : (tell : Machine V → Blocks → State V → Part V) (r : Result (Unit {0}) Halt) (now : Moment V)
       → mid.machine ≡ was.machine → ((lap index : ℕ) → mid.blocks lap index ≡ was.blocks lap index) → mid.disk.faults ≡ was.disk.faults → was.faults ≤ mid.faults
       → Reopens r mid now
       → ((s : Standing V) → Fits s was → (flight : Flight) × (is_of_making flight ≡ false) × (t : Standing V) × FitsDown flight t mid
       × Pending mid.machine (tell mid.machine mid.blocks) (power_on mid.machine mid.blocks flight Done) s t (outside was) (outside mid))
       → Does tell r was now
-  opened_by tell r now machine blocks faults later opens each = record {
-    carried = λ s fits.
-        let k = each s fits in
-        let q = opened_carries r now k.0 (tell mid.machine mid.blocks) s k.2 opens.no_stop opens.no_read opens.powered k.4 (opens.carried k.0 Done (k.1, refl) k.2 k.3) in (
-          q.0,
-          q.1,
-          alike_by was.machine mid.machine was.blocks mid.blocks tell r s q.0 (outside was) (outside now) now.disk machine blocks q.2,
-        );
-    leaves = record {
-      sits = opens.leaves.sits;
-      no_fault = λ serves. opens.leaves.no_fault serves ∙ faults;
-      disk_fault = λ is. subst (λ (n : ℕ). Rose n now.disk.faults) faults (opens.leaves.disk_fault is);
-      later = omega (arith, later, opens.leaves.later);
-      write_fault = λ is. omega (arith, later, opens.leaves.write_fault is);
-      machine = opens.leaves.machine ∙ machine;
-      blocks = λ lap index. opens.leaves.blocks lap index ∙ blocks lap index;
-    };
-    reads_nothing = opens.no_read;
-  }
+  opened_by tell r now machine blocks faults later opens each =
+      opened_from tell r now machine blocks faults later opens.leaves opens.no_stop opens.no_read opens.powered
+      (λ s fits. let k = each s fits in (k.0, k.2, k.4, opens.carried k.0 Done (k.1, refl) k.2 k.3))
 
 -- ================ the parts of a clearing
 
@@ -209,27 +220,32 @@ module _ {V : Type 0} where
     pub later : was.faults ≤ mid.faults
 
   -- then the rest was done
-  pub comes_does : (tell rest : Machine V → Blocks → State V → Part V) (r : Result (Unit {0}) Halt) (was mid now : Moment V) → ComesTo tell rest (λ t. Fits t mid) was mid → Does rest r mid now → Does tell r was now
-  comes_does tell rest r was mid now comes does = record {
+  pub comes_ends : (tell rest : Machine V → Blocks → State V → Part V) (P : Standing V → Type 0) (r : Result (Unit {0}) Halt) (was mid now : Moment V) → ComesTo tell rest P was mid
+      → ((t : Standing V) → P t → (u : Standing V) × (Serves r → Fits u now) × CarriesBy r mid.machine (rest mid.machine mid.blocks) t u (outside mid) (outside now) now.disk)
+      → Leaves r mid now → (r ≡ Err Halt.ReadFault → ⊥) → Does tell r was now
+  comes_ends tell rest P r was mid now comes each leaves no_read = record {
     carried = λ s fits.
         let k = comes.so_far s fits in
-        let q = does.carried k.0 k.1 in (
+        let q = each k.0 k.1 in (
           q.0,
           q.1,
           then_by was.machine r (tell was.machine was.blocks) (rest was.machine was.blocks) s k.0 q.0 (outside was) (outside mid) (outside now) now.disk k.2
               (alike_by was.machine mid.machine was.blocks mid.blocks rest r k.0 q.0 (outside mid) (outside now) now.disk comes.machine comes.blocks q.2),
         );
     leaves = record {
-      sits = does.leaves.sits;
-      no_fault = λ serves. does.leaves.no_fault serves ∙ comes.no_fault;
-      disk_fault = λ is. subst (λ (n : ℕ). Rose n now.disk.faults) comes.no_fault (does.leaves.disk_fault is);
-      later = omega (arith, comes.later, does.leaves.later);
-      write_fault = λ is. omega (arith, comes.later, does.leaves.write_fault is);
-      machine = does.leaves.machine ∙ comes.machine;
-      blocks = λ lap index. does.leaves.blocks lap index ∙ comes.blocks lap index;
+      sits = leaves.sits;
+      no_fault = λ serves. leaves.no_fault serves ∙ comes.no_fault;
+      disk_fault = λ is. subst (λ (n : ℕ). Rose n now.disk.faults) comes.no_fault (leaves.disk_fault is);
+      later = omega (arith, comes.later, leaves.later);
+      write_fault = λ is. omega (arith, comes.later, leaves.write_fault is);
+      machine = leaves.machine ∙ comes.machine;
+      blocks = λ lap index. leaves.blocks lap index ∙ comes.blocks lap index;
     };
-    reads_nothing = does.reads_nothing;
+    reads_nothing = no_read;
   }
+
+  pub comes_does : (tell rest : Machine V → Blocks → State V → Part V) (r : Result (Unit {0}) Halt) (was mid now : Moment V) → ComesTo tell rest (λ t. Fits t mid) was mid → Does rest r mid now → Does tell r was now
+  comes_does tell rest r was mid now comes does = comes_ends tell rest (λ t. Fits t mid) r was mid now comes does.carried does.leaves does.reads_nothing
 
   -- a step more
   comes_step : (tell f g : Machine V → Blocks → State V → Part V) (P Q : Standing V → Type 0) (was mid now : Moment V) → ComesTo tell f P was mid
@@ -262,21 +278,66 @@ module _ {V : Type 0} where
   abbrev pub opening_rest : Machine V → Blocks → State V → Part V
   opening_rest M B s = power_on M B Making Cleared s
 
+  -- the empty memory was made, and nothing was altered since
+  abbrev pub IsCleared : Moment V → Standing V → Type 0
+  IsCleared made t = Fits t made × ((t.masks ≡ []) × (t.view ≡ made.machine.empty))
+
+  -- a standing of which less is known
+  pub comes_as : (tell f : Machine V → Blocks → State V → Part V) (P Q : Standing V → Type 0) (was mid : Moment V) → ((t : Standing V) → P t → Q t) → ComesTo tell f P was mid → ComesTo tell f Q was mid
+  comes_as tell f P Q was mid less comes = record {
+    so_far = λ s fits. let k = comes.so_far s fits in (k.0, less k.0 k.1, k.2);
+    machine = comes.machine;
+    blocks = comes.blocks;
+    no_fault = comes.no_fault;
+    later = comes.later;
+  }
+
+  -- the sink failed where it is told that the memory was made
+  pub cleared_front : (was : Moment V) (r : Result (Unit {0}) Halt) (taken : Option (List ℕ)) (faults : ℕ) → is_err r ≡ true → was.phase ≡ Off → GivesText r was.taken taken (codes "cleared\n") → was.faults ≤ faults → OnErr r (Rose was.faults faults)
+      → Does cleared_rest r was (record was { taken = taken; faults = faults })
+  cleared_front was r taken faults failed off gives later cause =
+      let now : Moment V = record was { taken = taken; faults = faults } in
+      let front = unwritten_of r _ _ _ failed gives in
+      subst (λ q. Does cleared_rest q was now) (sym front.0)
+      (record {
+        carried = λ s fits. (
+          s,
+          (λ serves. absurd serves),
+          cleared_unwritten was.machine was.blocks s (outside was) (outside now) was.disk fits.explained refl refl (armed_length s.armed was.disk.armed fits.armed)
+              (subst (λ (p : Phase). IsLeftIn was.machine p s.view s.masks was.disk) off fits.holds) front.1,
+        );
+        leaves = record {
+          sits = λ serves. absurd serves;
+          no_fault = λ serves. absurd serves;
+          disk_fault = λ is. absurd (cc is);
+          later = later;
+          write_fault = λ is. err_of r _ failed cause;
+          machine = refl;
+          blocks = λ lap index. refl;
+        };
+        reads_nothing = λ is. absurd (cc is);
+      })
+
   -- ================ at its beginning
 
-  clear_by : (M : Machine V) (B : Blocks) (s : Standing V) (x : Later V) (b : Bool) → s.phase ≡ Locked → nat_le MOST_POWER_ONS (s.power_ons + length s.armed) ≡ b
+  clear_by : (M : Machine V) (B : Blocks) (s : Standing V) (x : Later V) (b : Bool) → s.phase ≡ Locked → at_limit (at s x) ≡ b
       → (let u = at s x in item_meaning M B Item.Clear u ≡ (if b then ends Stops [] u else make M (power_on M B) u))
   clear_by M B s x b is test =
       let u = at s x in
       clear_is M B u ∙ ap (λ (p : Phase). clear_meaning M B p u) is ∙ ap (λ (b : Bool). if b then ends Stops [] u else make M (power_on M B) u) test
 
-  pub clear_stops : (was : Moment V) → was.phase ≡ Locked → Sits was → nat_le MOST_POWER_ONS (was.counts.power_ons + length was.counts.calls.items) ≡ true → Does clear_line (Err Halt.ScriptFault) was was
-  clear_stops was is sits limit = record {
+  -- whether a trial is at its limit, as its code tests it
+  pub limit_in_trial : (was : Moment V) → was.is_trial ≡ true → Sits was → (b : Bool) → nat_le MOST_POWER_ONS (was.counts.power_ons + length was.counts.calls.items) ≡ b → (s : Standing V) → Fits s was → (x : Later V) → at_limit (at s x) ≡ b
+  limit_in_trial was trial sits b test s fits x =
+      ap (λ (t : Bool). t && nat_le MOST_POWER_ONS (s.power_ons + length s.armed)) (fits.trial ∙ trial) ∙ ap (nat_le MOST_POWER_ONS) (limit_is was s sits fits) ∙ test
+
+  pub clear_stops : (was : Moment V) → was.is_trial ≡ true → was.phase ≡ Locked → Sits was → nat_le MOST_POWER_ONS (was.counts.power_ons + length was.counts.calls.items) ≡ true → Does clear_line (Err Halt.ScriptFault) was was
+  clear_stops was trial is sits limit = record {
     carried = λ s fits. (
       s,
       (λ serves. fits),
       stops_here was.machine (item_meaning was.machine was.blocks Item.Clear) s (outside was)
-          (λ x. clear_by was.machine was.blocks s x true (fits.phase ∙ is) (ap (nat_le MOST_POWER_ONS) (limit_is was s sits fits) ∙ limit)),
+          (λ x. clear_by was.machine was.blocks s x true (fits.phase ∙ is) (limit_in_trial was trial sits true limit s fits x)),
     );
     leaves = record {
       sits = λ serves. sits;
@@ -290,8 +351,8 @@ module _ {V : Type 0} where
     reads_nothing = λ is. absurd (cc is);
   }
 
-  pub clear_begins : (was : Moment V) → was.phase ≡ Locked → Sits was → nat_le MOST_POWER_ONS (was.counts.power_ons + length was.counts.calls.items) ≡ false → ComesTo clear_line making_rest (λ t. Fits t was) was was
-  clear_begins was is sits test = record {
+  pub clear_begins : (was : Moment V) → was.phase ≡ Locked → ((s : Standing V) → Fits s was → (x : Later V) → at_limit (at s x) ≡ false) → ComesTo clear_line making_rest (λ t. Fits t was) was was
+  clear_begins was is below = record {
     so_far = λ s fits. (
       s,
       fits,
@@ -303,7 +364,7 @@ module _ {V : Type 0} where
         report = [];
         printed = Appends-nil was.taken;
         moves = moves_not s (outside was);
-        tells = λ x whole rise. clear_by was.machine was.blocks s x false (fits.phase ∙ is) (ap (nat_le MOST_POWER_ONS) (limit_is was s sits fits) ∙ test);
+        tells = λ x whole rise. clear_by was.machine was.blocks s x false (fits.phase ∙ is) (below s fits x);
       },
     );
     machine = refl;
@@ -322,29 +383,33 @@ module _ {V : Type 0} where
     masks_of t fits = subst (λ (p : Phase). IsKnownIn p t.view t.masks mid.view) is fits.known
 
     -- it was whole
-    pub comes_made : (made : Moment V) → Sits mid → made.phase ≡ Off → IsMade N v mid.disk made.disk → made.machine ≡ mid.machine → ((lap index : ℕ) → made.blocks lap index ≡ mid.blocks lap index)
-        → made.taken ≡ mid.taken → made.faults ≡ mid.faults → made.counts ≡ record mid.counts { lap = mid.counts.lap + 1; offers = mid.counts.offers + 1 } → ComesTo clear_line cleared_rest (λ t. Fits t made) was made
-    comes_made made sits off h machine blocks taken faults counts =
+    pub comes_made : (made : Moment V) → made.is_trial ≡ mid.is_trial → Sits mid → made.phase ≡ Off → IsMade N v mid.disk made.disk → made.machine ≡ mid.machine → ((lap index : ℕ) → made.blocks lap index ≡ mid.blocks lap index)
+        → made.taken ≡ mid.taken → made.faults ≡ mid.faults → made.counts ≡ record mid.counts { lap = mid.counts.lap + 1; offers = mid.counts.offers + 1 } → ComesTo clear_line cleared_rest (IsCleared made) was made
+    comes_made made kind sits off h machine blocks taken faults counts =
         let M = mid.machine in
         let B = mid.blocks in
         let both : (image : List ℕ) → made.disk.may_find image → IsInBoth M M.empty image = both_alike M N M.empty v made.disk same empty h.both in
-        comes_step clear_line making_rest cleared_rest (λ t. Fits t mid) (λ t. Fits t made) was mid made comes
+        comes_step clear_line making_rest cleared_rest (λ t. Fits t mid) (IsCleared made) was mid made comes
         (λ t fits. (
           making_cleared M (power_on M B) t,
-          record {
-            phase = sym off;
-            known = subst (λ (p : Phase). IsKnownIn p M.empty [] made.view) (sym off) tt;
-            lines = fits.lines ∙ sym (ap (λ (k : Counts). k.lines) counts);
-            power_ons = fits.power_ons ∙ sym (ap (λ (k : Counts). k.power_ons) counts);
-            lap = ap (λ (n : ℕ). n + 1) fits.lap ∙ sym (ap (λ (k : Counts). k.lap) counts);
-            offers = ap (λ (n : ℕ). n + 1) fits.offers ∙ sym (ap (λ (k : Counts). k.offers) counts);
-            armed = armed_whole syncs_of_making t.armed mid.disk made.disk fits.armed h.run;
-            spelled = (h.spelled.0, ap (λ (O : Machine V). O.spelled h.spelled.0) (machine ∙ sym same) ∙ h.spelled.1 ∙ ap Shows empty);
-            holds = subst (λ (p : Phase). IsLeftIn made.machine p M.empty [] made.disk) (sym off)
-                (subst (λ (O : Machine V). IsLeftIn O Off M.empty [] made.disk) (sym machine) (λ image may. unmasked M M.empty image (both image may)));
-            bad = λ locked. absurd (cc (sym off ∙ locked));
-            explained = fits.explained;
-          },
+          (
+            record {
+              phase = sym off;
+              trial = fits.trial ∙ sym kind;
+              known = subst (λ (p : Phase). IsKnownIn p M.empty [] made.view) (sym off) tt;
+              lines = fits.lines ∙ sym (ap (λ (k : Counts). k.lines) counts);
+              power_ons = fits.power_ons ∙ sym (ap (λ (k : Counts). k.power_ons) counts);
+              lap = ap (λ (n : ℕ). n + 1) fits.lap ∙ sym (ap (λ (k : Counts). k.lap) counts);
+              offers = ap (λ (n : ℕ). n + 1) fits.offers ∙ sym (ap (λ (k : Counts). k.offers) counts);
+              armed = armed_whole syncs_of_making t.armed mid.disk made.disk fits.armed h.run;
+              spelled = (h.spelled.0, ap (λ (O : Machine V). O.spelled h.spelled.0) (machine ∙ sym same) ∙ h.spelled.1 ∙ ap Shows empty);
+              holds = subst (λ (p : Phase). IsLeftIn made.machine p M.empty [] made.disk) (sym off)
+                  (subst (λ (O : Machine V). IsLeftIn O Off M.empty [] made.disk) (sym machine) (λ image may. unmasked M M.empty image (both image may)));
+              bad = λ locked. absurd (cc (sym off ∙ locked));
+              explained = fits.explained;
+            },
+            (refl, ap (λ (O : Machine V). O.empty) (sym machine)),
+          ),
           record {
             since = [];
             listed = h.found ∙ sym (append-nil mid.disk.found);
@@ -402,18 +467,19 @@ module _ {V : Type 0} where
         })
 
     -- a cut came in it
-    pub comes_fell : (down : Moment V) → Sits mid → IsCutOff syncs_of_making mid.disk down.disk → ((image : List ℕ) → down.disk.may_find image → IsMakingOver N v mid.disk image) → down.disk.found ≡ mid.disk.found
+    pub comes_fell : (down : Moment V) → down.is_trial ≡ mid.is_trial → Sits mid → IsCutOff syncs_of_making mid.disk down.disk → ((image : List ℕ) → down.disk.may_find image → IsMakingOver N v mid.disk image) → down.disk.found ≡ mid.disk.found
         → down.machine ≡ mid.machine → ((lap index : ℕ) → down.blocks lap index ≡ mid.blocks lap index) → down.taken ≡ mid.taken → down.faults ≡ mid.faults
         → down.counts.lines ≡ mid.counts.lines → down.counts.power_ons ≡ mid.counts.power_ons → down.counts.lap ≡ mid.counts.lap → down.counts.offers ≡ mid.counts.offers + 1
         → down.counts.falls.items ≡ mid.counts.falls.items ++ falls_by mid.counts.calls.items (mid.counts.offers + 1)
         → ComesTo clear_line opening_rest (λ t. FitsDown Making t down) was down
-    comes_fell down sits cut near found machine blocks taken faults lines power_ons lap offers falls =
+    comes_fell down kind sits cut near found machine blocks taken faults lines power_ons lap offers falls =
         let M = mid.machine in
         let B = mid.blocks in
         comes_step clear_line making_rest opening_rest (λ t. Fits t mid) (λ t. FitsDown Making t down) was mid down comes
         (λ t fits. (
           after_fall syncs_of_making t,
           record {
+            trial = fits.trial ∙ sym kind;
             lines = fits.lines ∙ sym lines;
             power_ons = fits.power_ons ∙ sym power_ons;
             lap = fits.lap ∙ sym lap;

@@ -59,6 +59,7 @@ pub record IsAnswered {V : Type 0} (e : Numbered) (m n : Moment V) : Type 0 wher
   pub is_on : n.disk.is_on ≡ true
   pub runs : n.is_stopped ≡ false
   pub lap : n.lap ≡ m.lap
+  pub trial : n.is_trial ≡ m.is_trial
   pub found : n.disk.found ≡ m.disk.found
   pub machine : n.machine ≡ m.machine
   pub blocks : (lap index : ℕ) → n.blocks lap index ≡ m.blocks lap index
@@ -114,6 +115,7 @@ module _ {V : Type 0} (e : Numbered) (m n : Moment V) (h : IsAnswered e m n) whe
             b,
             (λ serves. record {
               phase = refl;
+              trial = sym h.trial;
               known = (refl, refl);
               lines = refl;
               power_ons = refl;
@@ -152,6 +154,7 @@ module _ {V : Type 0} (e : Numbered) (m n : Moment V) (h : IsAnswered e m n) whe
             b,
             (λ serves. record {
               phase = refl;
+              trial = sym h.trial;
               known = (refl, refl);
               lines = refl;
               power_ons = refl;
@@ -328,6 +331,7 @@ module _ {V : Type 0} (e : Numbered) (m n : Moment V) (h : IsFailed e m n) where
 
 -- a cut came in it, and was counted
 pub record IsCounted {V : Type 0} (m n : Moment V) : Type 0 where
+  pub trial : n.is_trial ≡ m.is_trial
   pub offers : n.counts.offers ≡ m.counts.offers + 1
   pub power_ons : n.counts.power_ons ≡ m.counts.power_ons
   pub lines : n.counts.lines ≡ m.counts.lines
@@ -375,6 +379,7 @@ module _ {V : Type 0} (m n : Moment V) (sits : Sits (on_at m)) (cut : IsCutOff s
           entry,
           t,
           record {
+            trial = sym k.trial;
             lines = sym k.lines;
             power_ons = sym k.power_ons;
             lap = sym k.lap;

@@ -68,6 +68,7 @@ module _ {V : Type 0} (was : Moment V) where
               a,
               (λ serves. record {
                 phase = fits.phase;
+                trial = fits.trial;
                 known = fits.known;
                 lines = fits.lines;
                 power_ons = fits.power_ons;

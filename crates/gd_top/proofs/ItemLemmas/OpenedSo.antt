@@ -17,7 +17,7 @@ use Rattle.gd_store.specs.Repair.{Repair, repair_needed}
 use Rattle.gd_store.specs.declared.copy.layout.TheConstants.{LAYOUT}
 use Rattle.gd_top.specs.Claims.MemoryLeft.{IsLeftIn, IsNear, IsOfAnother, IsShut}
 use Rattle.gd_top.specs.Code.Falls.{AreCalls, AreWaiting, fall_of, falls_by}
-use Rattle.gd_top.specs.Code.Memory.{Moment, Fits, FitsDown, IsFallen, IsKnownIn, IsLapFound, IsWantedIn, OpensTo, is_of_making, outside, stands_with, unless_failed}
+use Rattle.gd_top.specs.Code.Memory.{Agrees, Moment, Fits, FitsDown, IsFallen, IsKnownIn, IsLapFound, IsWantedIn, OpensTo, is_of_making, outside, stands_with, unless_failed}
 use Rattle.gd_top.specs.Code.Parts.{GivesText, Pending}
 use Rattle.gd_top.specs.Code.Standing.{Standing, Later, EndsInNone, at, finds, only}
 use Rattle.gd_top.specs.Report.Lines.{differs_line, locked_line, power_line, start_text}
@@ -76,7 +76,6 @@ module _ (given : Result (Unit {0}) Halt) (u v : Option (List ℕ)) (text : List
 
 -- an image was found, of its length, and the lap is the one that the reading of it says
 pub record HasRead {V : Type 0} (making : Bool) (was : Moment V) (mid : DiskState) (lap : ℕ) (image : List ℕ) : Type 0 where
-  pub could_be : was.disk.may_find image
   pub long : length image ≡ DISK_LEN
   pub lap_found : IsLapFound making was.machine mid was.counts.lap lap
   pub seen : mid.seen ≡ Some image
@@ -85,6 +84,9 @@ pub record HasRead {V : Type 0} (making : Bool) (was : Moment V) (mid : DiskStat
   pub armed : mid.armed ≡ was.disk.armed
   pub waiting : AreWaiting mid.armed
   pub syncs : mid.syncs ≡ was.disk.syncs
+
+pub agrees_of : {V : Type 0} (flight : Flight) (s : Standing V) (m : Moment V) → FitsDown flight s m → Agrees s m
+agrees_of flight s m fits = record { trial = fits.trial; lines = fits.lines; power_ons = fits.power_ons; lap = fits.lap; offers = fits.offers; armed = fits.armed; spelled = fits.spelled }
 
 -- one power-on and one offer more were counted, under this lap
 pub record CountsOpened (was now : Counts) (lap : ℕ) : Type 0 where
@@ -121,12 +123,12 @@ module _ {V : Type 0} (making : Bool) (was : Moment V) where
       (λ c may. subst (λ (f : List (List ℕ)). IsNear M flight (at s (only [] [] None)) f c) (sym found) (near_more flight s was.disk.found image c (fits.near c (still c may)) (fits.fallen c (still c may)))) gives
 
   module _ (mid : DiskState) (lap : ℕ) (image : List ℕ) (h : HasRead making was mid lap image) where
-    module _ (s : Standing V) (wanted : Wanted) where
+    module _ (could_be : was.disk.may_find image) (s : Standing V) (wanted : Wanted) where
       empty_of : FitsDown Making s was → HasPayload M M.empty
-      empty_of fits = let near = fits.near image h.could_be in (near.payload, near.empty)
+      empty_of fits = let near = fits.near image could_be in (near.payload, near.empty)
 
       -- the empty view has a payload where a cleared memory is wanted
-      empty_for : (kind : Bool) (flight : Flight) (w : Wanted) → IsWantedIn kind flight w → w ≡ Cleared → FitsDown flight s was → HasPayload M M.empty
+      pub empty_for : (kind : Bool) (flight : Flight) (w : Wanted) → IsWantedIn kind flight w → w ≡ Cleared → FitsDown flight s was → HasPayload M M.empty
       empty_for false flight w is wants fits = absurd (never (is.1 ∙ wants) (ap still_wanted wants))
         where
           never : still_wanted w ≡ Cleared → still_wanted w ≡ Done → ⊥
@@ -139,10 +141,10 @@ module _ {V : Type 0} (making : Bool) (was : Moment V) where
       pub read_of : (kind : Bool) (flight : Flight) → IsWantedIn kind flight wanted → IsLapFound kind M mid was.counts.lap lap → FitsDown flight s was → (v : V) → (shown : shows M image ≡ Shows v) → IsRead M h.tells image h.long s flight v lap
       read_of false Nothing is found fits v shown =
           subst (IsRead M h.tells image h.long s Nothing v) (fits.lap ∙ sym found)
-          (read_nothing M h.tells image h.long s fits.explained v shown fits.within (fits.near image h.could_be) fits.spelled)
+          (read_nothing M h.tells image h.long s fits.explained v shown fits.within (fits.near image could_be) fits.spelled)
       read_of false (Recording e) is found fits v shown =
           subst (IsRead M h.tells image h.long s (Recording e) v) (fits.lap ∙ sym found)
-          (read_recording M h.tells image h.long s fits.explained v shown e (either (fits.near image h.could_be)) fits.spelled)
+          (read_recording M h.tells image h.long s fits.explained v shown e (either (fits.near image could_be)) fits.spelled)
         where
           either : ShowsEither M s.view (M.effect s.view e) image → (v ≡ s.view) ⊎ (v ≡ M.effect s.view e)
           either (inl stood) = inl (one_view M image s.view v stood shown)
@@ -153,7 +155,14 @@ module _ {V : Type 0} (making : Bool) (was : Moment V) where
       read_of true Making is found fits v shown =
           read_making M h.tells image h.long s fits.explained v shown lap
           (subst (λ (n : ℕ). ((shows M image ≡ Shows M.empty) × (lap ≡ n + 1)) ⊎ ((shows M image ≡ Shows M.empty → ⊥) × (lap ≡ n))) (sym fits.lap) (found h.tells image h.seen))
-          (empty_of fits) fits.spelled (fits.fallen image h.could_be).1
+          (empty_of fits) fits.spelled (fits.fallen image could_be).1
+
+      -- where nothing is forged a lock has its reason, and no view is found of another setup
+      pub shut_of : (flight : Flight) → FitsDown flight s was → shows M image ≡ Unreadable → IsShutBy M h.tells image h.long s flight
+      shut_of flight fits shut = found_shut M h.tells image h.long s flight was.disk.found fits.explained fits.within shut (fits.near image could_be) (fits.fallen image could_be)
+
+      pub clear_of : (flight : Flight) → FitsDown flight s was → (kept : List ℕ) → shows M image ≡ Foreign kept → IsClear (differ_by (is_forged s.masks (found_behind LAYOUT image)) s)
+      clear_of flight fits kept shown = differ_clear M h.tells image h.long s kept shown flight was.disk.found fits.within (fits.near image could_be) (fits.fallen image could_be)
 
       -- a lock raises no lap
       pub locked_lap : (kind : Bool) → IsLapFound kind M mid was.counts.lap lap → shows M image ≡ Unreadable → lap ≡ was.counts.lap
@@ -167,8 +176,8 @@ module _ {V : Type 0} (making : Bool) (was : Moment V) where
           by_view (inl empty) = absurd (never (sym empty.0 ∙ shut))
           by_view (inr other) = other.1
 
-    module _ (now : Moment V) (listed : now.disk.found ≡ was.disk.found ++ image ∷ []) (same : now.machine ≡ was.machine) (counts : CountsOpened was.counts now.counts lap)
-        (flight : Flight) (wanted : Wanted) (in_it : IsWantedIn making flight wanted) (s : Standing V) (fits : FitsDown flight s was) where
+    module _ (now : Moment V) (listed : now.disk.found ≡ was.disk.found ++ image ∷ []) (same : now.machine ≡ was.machine) (kind : now.is_trial ≡ was.is_trial) (counts : CountsOpened was.counts now.counts lap)
+        (flight : Flight) (wanted : Wanted) (s : Standing V) (fits : Agrees s was) where
       abbrev line : List ℕ
       line = power_line (was.counts.power_ons + 1) (found_in LAYOUT image)
 
@@ -185,10 +194,7 @@ module _ {V : Type 0} (making : Bool) (was : Moment V) where
       as_now v p = subst (λ (O : Machine V). HasPayload O v) (sym same) p
 
       -- ================ a view was found
-      module _ (v : V) (shown : shows M image ≡ Shows v) where
-        abbrev k : IsRead M h.tells image h.long s flight v lap
-        k = read_of s wanted making flight in_it h.lap_found fits v shown
-
+      module _ (v : V) (shown : shows M image ≡ Shows v) (k : IsRead M h.tells image h.long s flight v lap) where
         abbrev read : Standing V
         read = read_by k.finding (is_forged s.masks (found_behind LAYOUT image)) v s
 
@@ -212,6 +218,7 @@ module _ {V : Type 0} (making : Bool) (was : Moment V) where
           pub masks : t.masks ≡ []
           pub lines : t.lines ≡ s.lines
           pub power_ons : t.power_ons ≡ s.power_ons + 1
+          pub trial : t.is_trial ≡ s.is_trial
           pub lap_is : t.lap ≡ read.lap
           pub offers : t.offers ≡ s.offers + 1
           pub fell : t.fell ≡ s.fell
@@ -221,8 +228,8 @@ module _ {V : Type 0} (making : Bool) (was : Moment V) where
           pub locks : t.other_locks ≡ read.other_locks
 
         plain : (b : Bool) → IsPlain (opening_recorded M B b repair read) (syncs_by M B read.lap b repair)
-        plain true = record { phase = refl; masks = refl; lines = refl; power_ons = refl; lap_is = refl; offers = refl; fell = refl; syncs_is = refl; clear = refl; views = refl; locks = refl }
-        plain false = record { phase = refl; masks = refl; lines = refl; power_ons = refl; lap_is = refl; offers = refl; fell = refl; syncs_is = refl; clear = refl; views = refl; locks = refl }
+        plain true = record { phase = refl; masks = refl; lines = refl; power_ons = refl; trial = refl; lap_is = refl; offers = refl; fell = refl; syncs_is = refl; clear = refl; views = refl; locks = refl }
+        plain false = record { phase = refl; masks = refl; lines = refl; power_ons = refl; trial = refl; lap_is = refl; offers = refl; fell = refl; syncs_is = refl; clear = refl; views = refl; locks = refl }
 
         armed_recorded : (b : Bool) (new : DiskState) → IsCompleteRun (syncs_by M B read.lap b repair) mid new → AreArmed (opening_recorded M B b repair read).armed new.armed
         armed_recorded true new run = armed_whole _ s.armed mid new armed_mid run
@@ -280,6 +287,7 @@ module _ {V : Type 0} (making : Bool) (was : Moment V) where
             fit : Fits recorded now
             fit = record {
               phase = facts.phase ∙ sym on;
+              trial = facts.trial ∙ fits.trial ∙ sym kind;
               known = subst (λ (p : Phase). IsKnownIn p recorded.view recorded.masks now.view) (sym on) (sym view_is, facts.masks);
               lines = facts.lines ∙ fits.lines ∙ sym counts.lines;
               power_ons = facts.power_ons ∙ ap (λ (n : ℕ). n + 1) fits.power_ons ∙ sym counts.power_ons;
@@ -336,6 +344,7 @@ module _ {V : Type 0} (making : Bool) (was : Moment V) where
 
             down : FitsDown next fallen now
             down = record {
+              trial = fits.trial ∙ sym kind;
               lines = fits.lines ∙ sym counts.lines;
               power_ons = ap (λ (n : ℕ). n + 1) fits.power_ons ∙ sym counts.power_ons;
               lap = k.lap_is ∙ sym counts.lap_is;
@@ -368,10 +377,11 @@ module _ {V : Type 0} (making : Bool) (was : Moment V) where
                 (subst (λ (n : ℕ). ShowsEither M v (view_started M B n v) c) (sym k.lap_is) (either c may))
 
       -- ================ the memory is locked
-      pub locked_to : (given : Result (Unit {0}) Halt) → now.phase ≡ Locked → shows M image ≡ Unreadable → now.disk.armed ≡ mid.armed → now.disk.syncs ≡ mid.syncs → now.counts.falls.items ≡ was.counts.falls.items
+      -- where nothing is forged it has its reason
+      pub locked_to : IsShutBy M h.tells image h.long s flight → lap ≡ was.counts.lap → (wanted ≡ Cleared → HasPayload M M.empty) → (given : Result (Unit {0}) Halt) → now.phase ≡ Locked → shows M image ≡ Unreadable → now.disk.armed ≡ mid.armed → now.disk.syncs ≡ mid.syncs → now.counts.falls.items ≡ was.counts.falls.items
           → ((c : List ℕ) → now.disk.may_find c → c ≡ image)
           → GivesText given was.taken now.taken (line ++ locked_line) → OpensTo (unless_failed given (Ok Opened.Stands)) flight wanted s was now
-      locked_to given on shut armed syncs falls only_it gives =
+      locked_to by same_lap empty given on shut armed syncs falls only_it gives =
           by_given given (Ok Opened.Stands) (λ r. OpensTo r flight wanted s was now) was.taken now.taken (line ++ locked_line) gives
           (λ all. (
             t,
@@ -381,7 +391,7 @@ module _ {V : Type 0} (making : Bool) (was : Moment V) where
                 (λ x whole rise. shut_tells M B h.tells image s (outside was) (outside now) listed flight wanted shut x) (subst (Appends was.taken now.taken) (sym text_is) all)),
           ))
           (λ front. unwritten_so M B h.tells image s (outside was) (outside now) listed (power_on M B flight wanted) (locked_with M (power_on M B) wanted) t now.disk text falls refl by.clear (armed_length s.armed now.disk.armed armed_now)
-          (locked_ends M B t now.disk wanted (λ wants. empty_for s wanted making flight wanted in_it wants fits) refl left) (λ x whole rise. shut_tells M B h.tells image s (outside was) (outside now) listed flight wanted shut x)
+          (locked_ends M B t now.disk wanted empty refl left) (λ x whole rise. shut_tells M B h.tells image s (outside was) (outside now) listed flight wanted shut x)
           (subst (AppendsFront was.taken now.taken) (sym text_is) front))
         where
           forged : Bool
@@ -389,9 +399,6 @@ module _ {V : Type 0} (making : Bool) (was : Moment V) where
 
           t : Standing V
           t = lock_by flight forged s
-
-          by : IsShutBy M h.tells image h.long s flight
-          by = found_shut M h.tells image h.long s flight was.disk.found fits.explained fits.within shut (fits.near image h.could_be) (fits.fallen image h.could_be)
 
           text : List ℕ
           text = line_as ++ locked_line
@@ -408,10 +415,11 @@ module _ {V : Type 0} (making : Bool) (was : Moment V) where
           fit : Fits t now
           fit = record {
             phase = sym on;
+            trial = fits.trial ∙ sym kind;
             known = subst (λ (p : Phase). IsKnownIn p t.view t.masks now.view) (sym on) refl;
             lines = fits.lines ∙ sym counts.lines;
             power_ons = ap (λ (n : ℕ). n + 1) fits.power_ons ∙ sym counts.power_ons;
-            lap = fits.lap ∙ sym (locked_lap s wanted making h.lap_found shut) ∙ sym counts.lap_is;
+            lap = fits.lap ∙ sym same_lap ∙ sym counts.lap_is;
             offers = ap (λ (n : ℕ). n + 1) fits.offers ∙ sym counts.offers;
             armed = armed_now;
             spelled = as_now s.view fits.spelled;
@@ -421,10 +429,10 @@ module _ {V : Type 0} (making : Bool) (was : Moment V) where
           }
 
       -- ================ the memory was made under another setup
-      pub differs_to : (given : Result (Unit {0}) Halt) (kept : List ℕ) → shows M image ≡ Foreign kept → now.disk.armed ≡ mid.armed → now.disk.syncs ≡ mid.syncs → now.counts.falls.items ≡ was.counts.falls.items
+      pub differs_to : IsClear (differ_by (is_forged s.masks (found_behind LAYOUT image)) s) → (given : Result (Unit {0}) Halt) (kept : List ℕ) → shows M image ≡ Foreign kept → now.disk.armed ≡ mid.armed → now.disk.syncs ≡ mid.syncs → now.counts.falls.items ≡ was.counts.falls.items
           → ((c : List ℕ) → now.disk.may_find c → c ≡ image) → now.disk.is_on ≡ true → IsSynced now.disk
           → GivesText given was.taken now.taken (line ++ differs_line kept M.digest) → OpensTo (unless_failed given (Err Halt.SetupDiffers)) flight wanted s was now
-      differs_to given kept shown armed syncs falls only_it on synced gives =
+      differs_to clear given kept shown armed syncs falls only_it on synced gives =
           by_given given (Err Halt.SetupDiffers) (λ r. OpensTo r flight wanted s was now) was.taken now.taken (line ++ differs_line kept M.digest) gives
           (λ all. (
             t,
@@ -446,9 +454,6 @@ module _ {V : Type 0} (making : Bool) (was : Moment V) where
 
           rest : State V → Part V
           rest u = ends Differs [] u
-
-          clear : IsClear t
-          clear = differ_clear M h.tells image h.long s kept shown flight was.disk.found fits.within (fits.near image h.could_be) (fits.fallen image h.could_be)
 
           text : List ℕ
           text = line_as ++ differs_line kept M.digest

@@ -78,7 +78,6 @@ module _ {V : Type 0} (making : Bool) (was : Moment V) where
   pub has_read : (on mid : DiskState) (lap : ℕ) → IsDown was → (h : HasFound was.disk on) → on.size ≡ was.disk.size → IsSynced on → on.armed ≡ was.disk.armed → on.syncs ≡ was.disk.syncs
       → IsLapFound making was.machine on was.counts.lap lap → LeavesOnly on mid (From on Unchanged) → mid.seen ≡ on.seen → mid.armed ≡ on.armed → mid.syncs ≡ on.syncs → HasRead making was mid lap h.image
   has_read on mid lap down h size synced armed syncs found leaves seen still none = record {
-    could_be = h.could_be;
     long = on.whole h.image h.seen ∙ size ∙ down.size;
     lap_found = lap_at making lap on mid seen found;
     seen = seen ∙ h.seen;

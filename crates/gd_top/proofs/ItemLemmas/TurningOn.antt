@@ -12,17 +12,18 @@ use Rattle.gd_top.specs.declared.halt.Halt.{Halt}
 use Rattle.gd_top.specs.declared.memory.TheConstants.{MOST_POWER_ONS}
 use Rattle.gd_top.proofs.ItemLemmas.Clearing.{as_down, opened_by}
 use Rattle.gd_top.proofs.ItemLemmas.Lines.{limit_is, stays}
+use Rattle.gd_top.proofs.ItemLemmas.PowerLines.{limit_of, of_trial}
 use Rattle.gd_top.proofs.RunLemmas.Equations.{on_is}
 use Rattle.gd_top.proofs.RunLemmas.Said.{moves_not, stops_here}
 
 module _ {V : Type 0} where
-  on_by : (M : Machine V) (B : Blocks) (s : Standing V) (x : Later V) (b : Bool) → s.phase ≡ Off → nat_le MOST_POWER_ONS (s.power_ons + length s.armed) ≡ b
+  on_by : (M : Machine V) (B : Blocks) (s : Standing V) (x : Later V) (b : Bool) → s.is_trial ≡ true → s.phase ≡ Off → nat_le MOST_POWER_ONS (s.power_ons + length s.armed) ≡ b
       → (let u = at s x in item_meaning M B Item.On u ≡ (if b then ends Stops [] u else power_on M B Nothing Done u))
-  on_by M B s x b is test =
+  on_by M B s x b trial is test =
       let u = at s x in
-      on_is M B u ∙ ap (λ (p : Phase). on_meaning M B p u) is ∙ ap (λ (b : Bool). if b then ends Stops [] u else power_on M B Nothing Done u) test
+      on_is M B u ∙ of_trial u (on_meaning M B s.phase u) trial ∙ ap (λ (p : Phase). on_meaning M B p u) is ∙ limit_of u (power_on M B Nothing Done u) trial ∙ ap (λ (b : Bool). if b then ends Stops [] u else power_on M B Nothing Done u) test
 
-  module _ (was : Moment V) (is : was.phase ≡ Off) (sits : Sits was) where
+  module _ (was : Moment V) (trial : was.is_trial ≡ true) (is : was.phase ≡ Off) (sits : Sits was) where
     -- at the limit
     pub on_stopped : nat_le MOST_POWER_ONS (was.counts.power_ons + length was.counts.calls.items) ≡ true → Does (λ M B. item_meaning M B Item.On) (Err Halt.ScriptFault) was was
     on_stopped limit = record {
@@ -30,7 +31,7 @@ module _ {V : Type 0} where
         s,
         (λ serves. fits),
         stops_here was.machine (item_meaning was.machine was.blocks Item.On) s (outside was)
-            (λ x. on_by was.machine was.blocks s x true (fits.phase ∙ is) (ap (nat_le MOST_POWER_ONS) (limit_is was s sits fits) ∙ limit)),
+            (λ x. on_by was.machine was.blocks s x true (fits.trial ∙ trial) (fits.phase ∙ is) (ap (nat_le MOST_POWER_ONS) (limit_is was s sits fits) ∙ limit)),
       );
       leaves = stays was sits;
       reads_nothing = λ is. absurd (cc is);
@@ -54,6 +55,6 @@ module _ {V : Type 0} where
             report = [];
             printed = Appends-nil was.taken;
             moves = moves_not s (outside was);
-            tells = λ x whole rise. on_by was.machine was.blocks s x false (fits.phase ∙ is) (ap (nat_le MOST_POWER_ONS) (limit_is was s sits fits) ∙ test);
+            tells = λ x whole rise. on_by was.machine was.blocks s x false (fits.trial ∙ trial) (fits.phase ∙ is) (ap (nat_le MOST_POWER_ONS) (limit_is was s sits fits) ∙ test);
           },
         ))

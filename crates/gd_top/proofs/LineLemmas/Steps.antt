@@ -72,7 +72,7 @@ module _ {V : Type 0} where
       let lines : t.lines < MOST_LINES = subst (λ (n : ℕ). n < MOST_LINES) (sym k.1.lines) few in
       let by = step was mid next (Ok tt) line bytes t u leaves lines is q.2 in (
         record u { lines = u.lines + 1 },
-        record { phase = f.phase; known = f.known; lines = ap (λ (n : ℕ). n + 1) f.lines; power_ons = f.power_ons; lap = f.lap; offers = f.offers; armed = f.armed; spelled = f.spelled; holds = f.holds; bad = f.bad; explained = f.explained },
+        record { phase = f.phase; trial = f.trial; known = f.known; lines = ap (λ (n : ℕ). n + 1) f.lines; power_ons = f.power_ons; lap = f.lap; offers = f.offers; armed = f.armed; spelled = f.spelled; holds = f.holds; bad = f.bad; explained = f.explained },
         lines_on was.machine was.blocks s t (record u { lines = u.lines + 1 }) (outside was) (outside mid) (outside next) next.disk left ahead later line no_end k.2 taken by,
       )
 

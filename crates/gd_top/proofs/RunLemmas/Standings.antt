@@ -14,9 +14,9 @@ use Rattle.gd_top.proofs.RunLemmas.Said.{as_at}
 module _ {V : Type 0} where
   -- what is known of a standing that fits, in its place
   abbrev stand_in : Phase → Standing V → Moment V → Standing V
-  stand_in On s m = record s { view = m.view; phase = On; lines = m.counts.lines; power_ons = m.counts.power_ons; lap = m.counts.lap; offers = m.counts.offers; masks = [] }
-  stand_in Off s m = record s { phase = Off; lines = m.counts.lines; power_ons = m.counts.power_ons; lap = m.counts.lap; offers = m.counts.offers }
-  stand_in Locked s m = record s { phase = Locked; lines = m.counts.lines; power_ons = m.counts.power_ons; lap = m.counts.lap; offers = m.counts.offers; masks = [] }
+  stand_in On s m = record s { view = m.view; phase = On; lines = m.counts.lines; power_ons = m.counts.power_ons; lap = m.counts.lap; offers = m.counts.offers; masks = []; is_trial = m.is_trial }
+  stand_in Off s m = record s { phase = Off; lines = m.counts.lines; power_ons = m.counts.power_ons; lap = m.counts.lap; offers = m.counts.offers; is_trial = m.is_trial }
+  stand_in Locked s m = record s { phase = Locked; lines = m.counts.lines; power_ons = m.counts.power_ons; lap = m.counts.lap; offers = m.counts.offers; masks = []; is_trial = m.is_trial }
 
   abbrev pub stand : Standing V → Moment V → Standing V
   stand s m = stand_in m.phase s m
@@ -35,9 +35,9 @@ module _ {V : Type 0} where
   stand_is s m f = by_phase m.phase f.phase f.known
     where
       by_phase : (phase : Phase) → s.phase ≡ phase → IsKnownIn phase s.view s.masks m.view → s ≡ stand_in phase s m
-      by_phase On e known = λ i. record s { view = known.0 i; phase = e i; lines = f.lines i; power_ons = f.power_ons i; lap = f.lap i; offers = f.offers i; masks = known.1 i }
-      by_phase Off e known = λ i. record s { phase = e i; lines = f.lines i; power_ons = f.power_ons i; lap = f.lap i; offers = f.offers i }
-      by_phase Locked e known = λ i. record s { phase = e i; lines = f.lines i; power_ons = f.power_ons i; lap = f.lap i; offers = f.offers i; masks = known i }
+      by_phase On e known = λ i. record s { view = known.0 i; phase = e i; lines = f.lines i; power_ons = f.power_ons i; lap = f.lap i; offers = f.offers i; masks = known.1 i; is_trial = f.trial i }
+      by_phase Off e known = λ i. record s { phase = e i; lines = f.lines i; power_ons = f.power_ons i; lap = f.lap i; offers = f.offers i; is_trial = f.trial i }
+      by_phase Locked e known = λ i. record s { phase = e i; lines = f.lines i; power_ons = f.power_ons i; lap = f.lap i; offers = f.offers i; masks = known i; is_trial = f.trial i }
 
   abbrev pub IsClear : Standing V → Type 0
   IsClear s = s.forged ≡ 0 → (s.other_views ≡ 0) × (s.other_locks ≡ 0)

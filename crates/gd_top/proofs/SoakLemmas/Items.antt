@@ -86,7 +86,7 @@ module _ {V : Type 0} where
         let lines : t.lines < MOST_LINES = subst (λ (c : ℕ). c < MOST_LINES) (sym k.1.lines) few in
         let by = one_more_item s t u lines k.2 q.2 in (
           record u { lines = u.lines + 1 },
-          record { phase = f.phase; known = f.known; lines = ap (λ (c : ℕ). c + 1) f.lines; power_ons = f.power_ons; lap = f.lap; offers = f.offers; armed = f.armed; spelled = f.spelled; holds = f.holds; bad = f.bad; explained = f.explained },
+          record { phase = f.phase; trial = f.trial; known = f.known; lines = ap (λ (c : ℕ). c + 1) f.lines; power_ons = f.power_ons; lap = f.lap; offers = f.offers; armed = f.armed; spelled = f.spelled; holds = f.holds; bad = f.bad; explained = f.explained },
           subst (λ (z : Result (Unit {0}) Halt). CarriesBy z was.machine (lines_meaning was.machine was.blocks (soak_lines (n + 1) seed)) s (after_line z u) (outside was) (outside next) next.disk) went by,
         )
 

@@ -10,7 +10,7 @@ use Rattle.gd_disk.specs.declared.disk.ArmedCut.{ArmedCut}
 use Rattle.gd_script.specs.declared.item.Item.{Item}
 use Rattle.gd_top.specs.Code.LinesDone.{DoneBy, IsFailedMaking, LinesDone, RunBy, RunDone, ScriptOf, made_outside}
 use Rattle.gd_top.specs.Code.Falls.{AreCalls, AreWaiting, counts_calls}
-use Rattle.gd_top.specs.Code.Memory.{Moment, FitsDown, IsDown, IsFresh, IsMade, IsUnmade, Leaves, OpensTo, Reopens, Serves, as_opened, begun, outside, stands_with}
+use Rattle.gd_top.specs.Code.Memory.{Moment, FitsDown, IsDown, IsFresh, IsMadeOff, IsUnmade, Leaves, OpensTo, Reopens, Serves, as_opened, begun, outside, stands_with}
 use Rattle.gd_top.specs.Code.Parts.{Outside, Carries, CarriesBy, Pending}
 use Rattle.gd_top.specs.Code.Standing.{Standing, at, first_standing}
 use Rattle.gd_top.specs.Run.Items.{lines_meaning}
@@ -160,9 +160,9 @@ no_cut_came done syncs old none came = subst (λ (cuts : List ArmedCut). FirstCo
 
 module _ {V : Type 0} (was made : Moment V) (unarmed : was.disk.armed ≡ []) (machine : made.machine ≡ was.machine) (fresh : IsFresh made.counts) where
   -- the memory that was made fits the first standing
-  module _ (h : IsMade was.machine was.view was.disk made.disk) where
+  module _ (h : IsMadeOff was.machine was.view was.disk made.disk) where
     still_unarmed : made.disk.armed ≡ []
-    still_unarmed = cuts_left syncs_of_making was.disk.armed made.disk.armed unarmed h.run.left
+    still_unarmed = cuts_left syncs_of_making was.disk.armed made.disk.armed unarmed h.made.run.left
 
     waits : AreWaiting made.disk.armed
     waits = subst AreWaiting (sym still_unarmed) tt
@@ -176,20 +176,21 @@ module _ {V : Type 0} (was made : Moment V) (unarmed : was.disk.armed ≡ []) (m
     none_fallen : length made.counts.falls.items ≡ 0
     none_fallen = ap length fresh.falls
 
-    pub first_fits : was.view ≡ was.machine.empty → FitsDown Nothing (first_standing made.machine) made
-    first_fits empty =
+    pub first_fits : made.is_trial ≡ true → was.view ≡ was.machine.empty → FitsDown Nothing (first_standing made.machine) made
+    first_fits trial empty =
         let is : was.view ≡ made.machine.empty = empty ∙ sym (ap (λ m. m.empty) machine) in
         record {
+          trial = sym trial;
           lines = sym fresh.lines;
           power_ons = sym fresh.power_ons;
           lap = sym fresh.lap;
           offers = sym fresh.offers;
           armed = still_unarmed;
           within = tt;
-          spelled = subst (λ v. HasPayload made.machine v) is (subst (λ O. HasPayload O was.view) (sym machine) h.spelled);
+          spelled = subst (λ v. HasPayload made.machine v) is (subst (λ O. HasPayload O was.view) (sym machine) h.made.spelled);
           near = λ image may.
               inl (unmasked made.machine made.machine.empty image
-              (subst (λ v. IsInBoth made.machine v image) is (subst (λ O. IsInBoth O was.view image) (sym machine) (h.both image may))));
+              (subst (λ v. IsInBoth made.machine v image) is (subst (λ O. IsInBoth O was.view image) (sym machine) (h.made.both image may))));
           fallen = λ image may. tt;
           explained = λ none. (refl, refl);
         }
@@ -201,7 +202,7 @@ module _ {V : Type 0} (was made : Moment V) (unarmed : was.disk.armed ≡ []) (m
     made_down tells given = record {
       tells = subst TellsViews (sym machine) tells;
       given = given_as given;
-      size = h.size;
+      size = h.made.size;
       is_off = h.is_off;
       laps = omega (arith, fresh.lap);
       falls = omega (arith, none_fallen);
@@ -216,7 +217,7 @@ module _ {V : Type 0} (was made : Moment V) (unarmed : was.disk.armed ≡ []) (m
       sits = λ serves. record {
         tells = subst TellsViews (sym machine) tells;
         given = given_as given;
-        size = h.size;
+        size = h.made.size;
         power = h.is_off ∙ ap is_powered (sym off);
         runs = runs;
         same_lap = λ e. cc (sym off ∙ e);
@@ -226,7 +227,7 @@ module _ {V : Type 0} (was made : Moment V) (unarmed : was.disk.armed ≡ []) (m
         settled = λ e. h.settled;
         synced = λ e. cc (sym off ∙ e);
       };
-      no_fault = λ serves. h.run.no_fault;
+      no_fault = λ serves. h.made.run.no_fault;
       disk_fault = λ e. absurd (cc e);
       later = omega (arith, faults);
       write_fault = λ e. absurd (cc e);

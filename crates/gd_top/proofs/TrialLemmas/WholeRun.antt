@@ -213,7 +213,7 @@ module _ {V : Type 0} (begin : Beginning V) (M : Machine V) (B : Blocks) (first 
         → (others : List (Option Item)) × (all ≡ lines ++ others) → length now.disk.armed ≡ length k.end.state.armed → FirstLines begin M B all falls was now
     ending_first all lines k begins armed =
         let is : k.end ≡ told lines falls k.found.used k.broken_at =
-            sym k.tells ∙ ap (λ (fs : List ℕ). run_meaning M B lines (at first (only k.found.used fs k.broken_at))) (sym k.fallen) ∙ told_at lines falls k.found.used k.broken_at in
+        sym k.tells ∙ ap (λ (fs : List ℕ). run_meaning M B lines (at first (only k.found.used fs k.broken_at))) (sym k.fallen) ∙ told_at lines falls k.found.used k.broken_at in
         record {
           lines = lines;
           begins = begins;

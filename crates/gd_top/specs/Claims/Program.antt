@@ -1,10 +1,11 @@
 -- What the program does with its words.
-use Rattle.std.specs.Prelude.{◌≡◌, ◌⊎◌, ℕ, Bool, true, false, List, Option, None, Some}
+use Rattle.std.specs.Prelude.{◌≡◌, ◌⊎◌, ℕ, Bool, true, false, List, [], Option, None, Some}
 use Rattle.gd_base.specs.declared.setup.Setup.{Setup}
 use Rattle.gd_base.specs.Judging.Machine.{Machine, Blocks}
 use Rattle.gd_base.specs.Outside.Causes.{Rose}
 use Rattle.gd_disk.specs.Disk.{DiskState}
 use Rattle.gd_machine.specs.Meaning.{the_machine}
+use Rattle.gd_top.specs.Claims.ImageRuns.{ImageRunDid}
 use Rattle.gd_top.specs.Claims.Images.{CheckDid, InitDid, ShowDid, Tells}
 use Rattle.gd_top.specs.Claims.Refusals.{IsRefusedAs, names_setup, refusal_status, refusal_text}
 use Rattle.gd_top.specs.Claims.Runs.{GivesLast, IsEnd, Outer, TrialDone, outer}
@@ -12,30 +13,10 @@ use Rattle.gd_top.specs.Claims.Setups.{IsGiven}
 use Rattle.gd_top.specs.Claims.Soak.{SoakDid}
 use Rattle.gd_top.specs.declared.command.refusal.Refusal.{Refusal}
 use Rattle.gd_top.specs.declared.status.Status.{Status}
-use Rattle.gd_words.specs.Meaning.{words_of}
 use Rattle.gd_words.specs.declared.words.Command.{Command}
 use Rattle.gd_words.specs.declared.words.Words.{Words}
 
--- ================ the words
-
--- the rows that are built
-abbrev pub is_built : Command → Bool
-is_built (Command.Run image) = false
-is_built _ = true
-
-abbrev pub unless_unbuilt : Bool → Words → Option Words
-unless_unbuilt true w = Some w
-unless_unbuilt false w = None
-
-abbrev pub built : Option Words → Option Words
-built None = None
-built (Some w) = unless_unbuilt (is_built w.command) w
-
--- what the words ask for, where they are in a row that is built
-abbrev pub asked : List (List ℕ) → Option Words
-asked words = built (words_of words)
-
--- ---- what a command touches of what it is handed
+-- ================ what a command touches of what it is handed
 
 abbrev pub in_lab : Command → Bool
 in_lab Command.Trial = true
@@ -48,6 +29,11 @@ in_image (Command.Run image) = true
 in_image (Command.Show what image) = true
 in_image (Command.Check image) = true
 in_image _ = false
+
+-- the laboratory or the image, with blocks of random words
+abbrev pub plays : Command → Bool
+plays (Command.Run image) = true
+plays command = in_lab command
 
 abbrev pub reads_script : Command → Bool
 reads_script Command.Trial = true
@@ -84,22 +70,23 @@ pub record IsRefused (meant : Option Words) (status : Status) (was now : World) 
   pub reason : IsRefusedAs meant was.setup_left was.setup_faults now.setup_faults why
   pub told : GivesLast (refusal_status why) status was.outer.taken now.outer.taken (refusal_text why)
 
--- by the command: over the input, the sink and the laboratory, and over the image
-abbrev pub CommandDone : {V : Type 0} → Machine V → Blocks → Command → Status → List ℕ → (was now : Outer) → (old new : DiskState) → Type 0
-CommandDone M B (Command.Init image) status falls was now old new = Tells (InitDid M old new) status was.taken now.taken
-CommandDone M B Command.Trial status falls was now old new = TrialDone M B status falls was now
-CommandDone M B (Command.Run image) status falls was now old new = ⊥
-CommandDone M B (Command.Show what image) status falls was now old new = Tells (ShowDid M what old new) status was.taken now.taken
-CommandDone M B (Command.Check image) status falls was now old new = Tells (CheckDid old new) status was.taken now.taken
-CommandDone M B (Command.Soak count seed) status falls was now old new = Tells (SoakDid M B count seed falls was.disk now.disk) status was.taken now.taken
+-- By the command: over the input, the sink and the laboratory, and over the image. `told` is that each state of the disk tells what a
+-- read gives.
+abbrev pub CommandDone : {V : Type 0} → (told : Type 0) → Machine V → Blocks → Command → Status → List ℕ → (was now : Outer) → (old new : DiskState) → Type 0
+CommandDone told M B (Command.Init image) status falls was now old new = Tells (InitDid M old new) status was.taken now.taken
+CommandDone told M B Command.Trial status falls was now old new = TrialDone M B status falls was now
+CommandDone told M B (Command.Run image) status falls was now old new = (falls ≡ []) × ImageRunDid told M B status (record was { disk = old }) (record now { disk = new })
+CommandDone told M B (Command.Show what image) status falls was now old new = Tells (ShowDid M what old new) status was.taken now.taken
+CommandDone told M B (Command.Check image) status falls was now old new = Tells (CheckDid old new) status was.taken now.taken
+CommandDone told M B (Command.Soak count seed) status falls was now old new = Tells (SoakDid M B count seed falls was.disk now.disk) status was.taken now.taken
 
 -- The command that the words say was carried out, under the setup that holds.
-pub record IsCarriedOut (meant : Option Words) (B : Blocks) (status : Status) (falls : List ℕ) (was now : World) : Type 0 where
+pub record IsCarriedOut (told : Type 0) (meant : Option Words) (B : Blocks) (status : Status) (falls : List ℕ) (was now : World) : Type 0 where
   pub words : Words
   pub said : meant ≡ Some words
   pub setup : Setup
   pub given : IsGiven (names_setup words) was.setup_left setup
-  pub done : CommandDone (the_machine setup) B words.command status falls was.outer now.outer was.image now.image
+  pub done : CommandDone told (the_machine setup) B words.command status falls was.outer now.outer was.image now.image
 
 -- ================ causes
 
@@ -131,7 +118,7 @@ pub record HasNotFailed (meant : Option Words) (was now : World) : Type 0 where
 abbrev pub CanEnd : Command → Status → Type 0
 CanEnd (Command.Init image) status = (status ≡ Status.Done) ⊎ (status ≡ Status.AlreadyMade)
 CanEnd Command.Trial status = IsEnd status
-CanEnd (Command.Run image) status = ⊥
+CanEnd (Command.Run image) status = IsEnd status
 CanEnd (Command.Show what image) status = (status ≡ Status.Done) ⊎ ((status ≡ Status.Locked) ⊎ (status ≡ Status.SetupDiffers))
 CanEnd (Command.Check image) status = (status ≡ Status.Done) ⊎ (status ≡ Status.Locked)
 CanEnd (Command.Soak count seed) status = status ≡ Status.Done

@@ -45,6 +45,7 @@ pub record Moment (V : Type 0) : Type 1 where
   pub counts : Counts
   pub taken : Option (List ℕ)  -- by the sink, where it tells
   pub faults : ℕ  -- of the sink
+  pub is_trial : Bool
 
 -- open, with the power on
 abbrev pub moment_on : {V C D W K : Type 0} {g h i : _} → (C → Machine V) → (C → V) → (D → DiskState) → (W → Blocks) → (K → Option (List ℕ)) → (K → ℕ)
@@ -60,6 +61,7 @@ moment_on meaning view state blocks taken faults cabinet counts sink = record {
   counts = counts;
   taken = taken sink;
   faults = faults sink;
+  is_trial = true;
 }
 
 -- closed, in this phase
@@ -76,6 +78,7 @@ moment_closed phase meaning view state blocks taken faults parts counts sink = r
   counts = counts;
   taken = taken sink;
   faults = faults sink;
+  is_trial = true;
 }
 
 -- what a memory holds, open or closed
@@ -122,6 +125,7 @@ moment meaning view state blocks taken faults memory counts sink = record {
   counts = counts;
   taken = taken sink;
   faults = faults sink;
+  is_trial = true;
 }
 
 -- what the outside has of it
@@ -167,6 +171,7 @@ IsKnownIn Locked view masks core = masks ≡ []
 -- sound
 pub record Fits {V : Type 0} (s : Standing V) (m : Moment V) : Type 0 where
   pub phase : s.phase ≡ m.phase
+  pub trial : s.is_trial ≡ m.is_trial
   pub known : IsKnownIn m.phase s.view s.masks m.view
   pub lines : s.lines ≡ m.counts.lines
   pub power_ons : s.power_ons ≡ m.counts.power_ons
@@ -212,6 +217,7 @@ IsFallen M Making s found image =
 
 -- how the memory stands then, with this in flight
 pub record FitsDown {V : Type 0} (flight : Flight) (s : Standing V) (m : Moment V) : Type 0 where
+  pub trial : s.is_trial ≡ m.is_trial
   pub lines : s.lines ≡ m.counts.lines
   pub power_ons : s.power_ons ≡ m.counts.power_ons
   pub lap : s.lap ≡ m.counts.lap
@@ -223,15 +229,29 @@ pub record FitsDown {V : Type 0} (flight : Flight) (s : Standing V) (m : Moment 
   pub fallen : (image : List ℕ) → m.disk.may_find image → IsFallen m.machine flight s m.disk.found image
   pub explained : IsExplained (at s (only [] [] None))
 
--- a memory that was made, with the power off
+-- What a standing with the power off has counted is what the code has, whatever is in flight.
+pub record Agrees {V : Type 0} (s : Standing V) (m : Moment V) : Type 0 where
+  pub trial : s.is_trial ≡ m.is_trial
+  pub lines : s.lines ≡ m.counts.lines
+  pub power_ons : s.power_ons ≡ m.counts.power_ons
+  pub lap : s.lap ≡ m.counts.lap
+  pub offers : s.offers ≡ m.counts.offers
+  pub armed : AreArmed s.armed m.disk.armed
+  pub spelled : HasPayload m.machine s.view
+
+-- a memory that was made
 pub record IsMade {V : Type 0} (M : Machine V) (v : V) (old made : DiskState) : Type 0 where
   pub size : made.size ≡ DISK_LEN
-  pub is_off : made.is_on ≡ false
   pub spelled : HasPayload M v
   pub both : (image : List ℕ) → made.may_find image → IsInBoth M v image
-  pub settled : IsSettled made
   pub run : IsCompleteRun syncs_of_making old made
   pub found : made.found ≡ old.found
+
+-- and the power was turned off then
+pub record IsMadeOff {V : Type 0} (M : Machine V) (v : V) (old off : DiskState) : Type 0 where
+  pub made : IsMade M v old off
+  pub is_off : off.is_on ≡ false
+  pub settled : IsSettled off
 
 -- an image of a making of this view, over one that might be found before, and what it boots to over one that might be
 pub record IsMakingOver {V : Type 0} (M : Machine V) (v : V) (old : DiskState) (image : List ℕ) : Type 0 where

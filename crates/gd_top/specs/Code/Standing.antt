@@ -1,6 +1,6 @@
 -- How a run stands between two parts: a state of the definition without what is still to come. The code knows the view, the
 -- phase and the counts of a standing. The rest is known to the definition alone.
-use Rattle.std.specs.Prelude.{◌≡◌, ℕ, ◌≤◌, true, false, List, [], ◌++◌, Option}
+use Rattle.std.specs.Prelude.{◌≡◌, ℕ, ◌≤◌, Bool, true, false, List, [], ◌++◌, Option}
 use Rattle.gd_base.specs.Histories.Entry.{Entry}
 use Rattle.gd_base.specs.Judging.Machine.{Machine}
 use Rattle.gd_disk.specs.declared.disk.ArmedCut.{ArmedCut}
@@ -25,6 +25,7 @@ pub record Standing (V : Type 0) : Type 0 where
   pub forged : ℕ
   pub other_views : ℕ
   pub other_locks : ℕ
+  pub is_trial : Bool
 
 -- what is still to come: what the power-ons find, the offers in which cuts that count calls come, and the offer in which the run
 -- ends, where it ends in one
@@ -54,7 +55,7 @@ at s x = record {
   falls = x.falls;
   starts = x.starts;
   broken_at = x.broken_at;
-  is_trial = true;
+  is_trial = s.is_trial;
 }
 
 -- before what comes later
@@ -87,4 +88,5 @@ first_standing M = record {
   forged = 0;
   other_views = 0;
   other_locks = 0;
+  is_trial = true;
 }

@@ -13,7 +13,7 @@ ghost use Rattle.gd_top.specs.Code.SoakDone.{soak_status, soak_text, IsSoakEnd, 
 ghost use Rattle.gd_top.specs.Run.Life.{soak_summary};
 ghost use Rattle.gd_top.specs.Run.State.{Off};
 
-use crate::command::trial::close;
+use crate::command::ending::close;
 use crate::ended::Carried;
 use crate::halt::Halt;
 use crate::item::opening::reopen;

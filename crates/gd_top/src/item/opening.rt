@@ -185,7 +185,7 @@ fn find_lap<C: Core, L: LabDisk, W: Draws>(
 
 /// Writes the line of power-on `number` and of its start over what stands in `text`. There is no start where the history
 /// that was found is full.
-fn write_opening(text: &mut Text, number: u64, found: &Found, count: u64)
+pub(crate) fn write_opening(text: &mut Text, number: u64, found: &Found, count: u64)
     ensures { text.new.bytes
         ≡ power_line number found.now ++ start_text (is_found_full found.now) count (repair_needed found.now) }
 {
@@ -213,7 +213,7 @@ fn is_copy_full(state: CopyState) -> bool
 }
 
 /// Writes the line of power-on `number`, and that the memory is locked, over what stands in `text`.
-fn write_locked(text: &mut Text, number: u64, found: &Found)
+pub(crate) fn write_locked(text: &mut Text, number: u64, found: &Found)
     ensures { text.new.bytes ≡ power_line number found.now ++ locked_line }
 {
     write_power_line(text, number, found);
@@ -221,7 +221,13 @@ fn write_locked(text: &mut Text, number: u64, found: &Found)
 }
 
 /// Writes the line of power-on `number`, and that the memory was made under another setup, over what stands in `text`.
-fn write_differs(text: &mut Text, number: u64, found: &Found, kept: &[u8; 32], given: &[u8; 32])
+pub(crate) fn write_differs(
+    text: &mut Text,
+    number: u64,
+    found: &Found,
+    kept: &[u8; 32],
+    given: &[u8; 32],
+)
     ensures { text.new.bytes ≡ power_line number found.now ++ differs_line kept.now given.now }
 {
     write_power_line(text, number, found);
@@ -229,7 +235,7 @@ fn write_differs(text: &mut Text, number: u64, found: &Found, kept: &[u8; 32], g
 }
 
 /// Writes the line of power-on `number` over what stands in `text`. At most 87 bytes.
-fn write_power_line(text: &mut Text, number: u64, found: &Found)
+pub(crate) fn write_power_line(text: &mut Text, number: u64, found: &Found)
     ensures bytes { text.new.bytes ≡ power_line number found.now }
     ensures room { array_string_len text.new ≤ 87 }
 {

@@ -5,6 +5,7 @@ ghost use Rattle.std.specs.Io.{ReadsAtMost};
 ghost use Rattle.std.specs.Io.KnownBytes.{ReadConsumes};
 ghost use Rattle.gd_base.specs.Outside.Causes.{HasCause};
 ghost use Rattle.gd_disk.specs.Untold.{file_state};
+ghost use Rattle.gd_store.specs.OpenAnswer.{IsOpenable};
 ghost use Rattle.gd_top.specs.Code.Named.{image_named};
 ghost use Rattle.gd_disk.specs.declared.lengths.TheConstants.{DISK_LEN};
 
@@ -57,7 +58,8 @@ impl Source for SetupFile {
 /// The disk of the image that the words name, which `init` makes first where there is no such file. Where the words name none,
 /// or the file can't be opened or has another length, it is a disk that is off.
 pub(crate) fn image_disk(files: &impl Files<File = File>, said: Option<&Words>) -> FileDisk
-    ensures { (file_state result).size ≡ DISK_LEN }
+    ensures size { (file_state result).size ≡ DISK_LEN }
+    ensures openable { IsOpenable (file_state result) }
 {
     match said {
         Some(said) => {

@@ -6,7 +6,7 @@ ghost use Rattle.gd_base.specs.Outside.Causes.{Rose};
 ghost use Rattle.gd_script.specs.Grammar.{InGrammar};
 ghost use Rattle.gd_script.specs.Items.{is_cut};
 ghost use Rattle.gd_top.specs.Code.LinesDone.{LinesDone};
-ghost use Rattle.gd_top.specs.Code.Memory.{moment, Does, Leaves, Sits};
+ghost use Rattle.gd_top.specs.Code.Memory.{moment, moment_on, Does, Leaves, Sits};
 ghost use Rattle.gd_top.specs.Script.Kinds.{is_comment, needs_memory};
 ghost use Rattle.gd_top.specs.Run.Items.{item_meaning};
 ghost use Rattle.gd_top.specs.Script.LineTaken.{TakesEnd};
@@ -15,14 +15,17 @@ ghost use Rattle.gd_top.specs.Script.Lines.{line_of};
 use crate::halt::Halt;
 use crate::item::altering::alter;
 use crate::item::arming::arm;
+use crate::item::asking::asked;
 use crate::item::clearing::clear;
-use crate::item::event::{carry_again, carry_event, next_numbered, order_event, show};
+use crate::item::event::carry_event;
 use crate::item::lock::tell_lock;
 use crate::item::power::{turn_off, turn_on};
 use crate::memory::Memory;
 use crate::memory::counts::Counts;
+use crate::report::lines::give_text;
 use crate::script::reader::{Ahead, LineBytes, MOST_LINES, next_byte, next_line};
-use gd_base::{Core, Draws, Numbered, Sink, Source, Text};
+use gd_base::{Core, Draws, Sink, Source, Text};
+use gd_cabinet::Cabinet;
 use gd_disk::LabDisk;
 use gd_script::{Item, read_line};
 
@@ -79,7 +82,7 @@ pub(crate) fn carry_lines<C: Core, S: Source, K: Sink, L: LabDisk, W: Draws>(
 }
 
 /// Where as many lines were carried out as a script may have: a byte more is a script fault.
-fn expect_end<S: Source>(input: &mut S, ahead: &mut Ahead) -> Result<(), Halt>
+pub(crate) fn expect_end<S: Source>(input: &mut S, ahead: &mut Ahead) -> Result<(), Halt>
     ensures taken { TakesEnd (prepend_known ahead.old (S.left input.old)) (prepend_known ahead.new
         (S.left input.new)) result }
     ensures empty { result ≡ Err Halt.ReadFault → ahead.new ≡ [] }
@@ -139,26 +142,14 @@ fn carry_in_phase<C: Core, K: Sink, L: LabDisk, W: Draws>(
 {
     match memory {
         Memory::On(cabinet) => match item {
-            Item::Event(event) => {
-                let e = next_numbered(cabinet.core(), event);
-                carry_event(cabinet, counts, output, text, &e)
-            }
-            Item::OrderEvent { kind, order } => {
-                let event = order_event(cabinet.core(), kind, order);
-                let e = next_numbered(cabinet.core(), event);
-                carry_event(cabinet, counts, output, text, &e)
-            }
-            Item::As { number, event } => carry_event(
-                cabinet,
-                counts,
-                output,
-                text,
-                &Numbered { number, event },
-            ),
-            Item::Again(device) => carry_again(cabinet, counts, output, text, device),
-            Item::Show(what) => show(cabinet, output, text, what),
             Item::Off => turn_off(cabinet, output, text),
-            _ => (Memory::On(cabinet), Err(Halt::ScriptFault)),
+            _ => {
+                if needs_memory(&item) {
+                    carry_asked(cabinet, counts, output, text, item)
+                } else {
+                    (Memory::On(cabinet), Err(Halt::ScriptFault))
+                }
+            }
         },
         Memory::Off(parts) => match item {
             Item::On => turn_on(parts, counts, output, text),
@@ -169,7 +160,8 @@ fn carry_in_phase<C: Core, K: Sink, L: LabDisk, W: Draws>(
             Item::Clear => clear(parts, counts, output, text),
             _ => {
                 if needs_memory(&item) {
-                    tell_lock(parts, output, text)
+                    let given = tell_lock(output, text);
+                    (Memory::Locked(parts), given)
                 } else {
                     (Memory::Locked(parts), Err(Halt::ScriptFault))
                 }
@@ -178,8 +170,36 @@ fn carry_in_phase<C: Core, K: Sink, L: LabDisk, W: Draws>(
     }
 }
 
+/// Carries out an item about the machine, over an open memory.
+fn carry_asked<C: Core, K: Sink, L: LabDisk, W: Draws>(
+    cabinet: Cabinet<C, L, W>,
+    counts: &mut Counts,
+    output: &mut K,
+    text: &mut Text,
+    item: Item,
+) -> (Memory<C, L, W>, Result<(), Halt>)
+    requires sits { Sits
+        (moment_on C.meaning C.view L.state W.block_of K.taken K.faults cabinet counts.old output.old) }
+    requires few { counts.old.offers + 1 ≤ MOST_LINES + 2 * counts.old.power_ons }
+    requires about { needs_memory item ≡ true }
+    requires grammar { InGrammar item }
+    ensures does { Does (λ M B. item_meaning M B item) result.1
+        (moment_on C.meaning C.view L.state W.block_of K.taken K.faults cabinet counts.old output.old)
+        (moment C.meaning C.view L.state W.block_of K.taken K.faults result.0 counts.new output.new) }
+    ensures lines { counts.new.lines ≡ counts.old.lines }
+    ensures offers { counts.new.offers + 2 * counts.old.power_ons ≤ counts.old.offers + 1 + 2 * counts.new.power_ons }
+{
+    match asked(cabinet.core(), item, text) {
+        Some(e) => carry_event(cabinet, counts, output, text, &e),
+        None => {
+            let given = give_text(output, text);
+            (Memory::On(cabinet), given)
+        }
+    }
+}
+
 /// Whether an item is about the machine, so that it needs an open memory.
-fn needs_memory(item: &Item) -> bool
+pub(crate) fn needs_memory(item: &Item) -> bool
     ensures { result ≡ needs_memory item.now }
 {
     matches!(
@@ -189,7 +209,7 @@ fn needs_memory(item: &Item) -> bool
 }
 
 /// The item that a line says.
-fn said_item(line: &[u8]) -> Option<Item>
+pub(crate) fn said_item(line: &[u8]) -> Option<Item>
     ensures item { result ≡ line_of line.now }
     ensures grammar { IfSome result InGrammar }
 {
@@ -200,7 +220,7 @@ fn said_item(line: &[u8]) -> Option<Item>
 }
 
 /// Whether an item is that of a comment or an empty line.
-fn is_comment(item: &Item) -> bool
+pub(crate) fn is_comment(item: &Item) -> bool
     ensures { result ≡ is_comment item.now }
 {
     matches!(item, Item::Skip)

@@ -14,8 +14,8 @@ returns-then-is_err-clause-done g c =
     let machine = ap g.C.Core.meaning c.in-Ok.ensures.core in
     let blocks = λ (lap index : ℕ). ap (λ w. g.W.Draws.block_of w lap index) c.in-Ok.ensures.draws in
     let h = c.in-Ok.ensures.made in
-    let is : outside made ≡ made_outside was = λ i. record { found = (h.found ∙ c.requires.found) i; taken = was.taken; falls = c.requires.fresh.falls i; syncs = h.run.made i } in
-    let fits : FitsDown Nothing (first_standing made.machine) made = first_fits was made c.requires.armed machine c.requires.fresh h c.requires.empty in
+    let is : outside made ≡ made_outside was = λ i. record { found = (h.made.found ∙ c.requires.found) i; taken = was.taken; falls = c.requires.fresh.falls i; syncs = h.made.run.made i } in
+    let fits : FitsDown Nothing (first_standing made.machine) made = first_fits was made c.requires.armed machine c.requires.fresh h refl c.requires.empty in
     let mid = moment g.C.Core.meaning g.C.Core.view g.L.Disk.state g.W.Draws.block_of g.K.Sink.taken g.K.Sink.faults c.reopen-memory.result.0 c.reopen-memory.new.counts c.reopen-memory.new.output in
     run_ends was made machine blocks is fits (g.S.Source.left c.args.input.now) (g.S.Source.left c.args.input.now) c.reopen-memory.result.1 mid c.reopen-memory.ensures.does (sym c.is_err.ensures.value ∙ c.if-is_err.true)
 
@@ -26,8 +26,8 @@ returns-else-is_err-clause-done g c =
     let machine = ap g.C.Core.meaning c.in-Ok.ensures.core in
     let blocks = λ (lap index : ℕ). ap (λ w. g.W.Draws.block_of w lap index) c.in-Ok.ensures.draws in
     let h = c.in-Ok.ensures.made in
-    let is : outside made ≡ made_outside was = λ i. record { found = (h.found ∙ c.requires.found) i; taken = was.taken; falls = c.requires.fresh.falls i; syncs = h.run.made i } in
-    let fits : FitsDown Nothing (first_standing made.machine) made = first_fits was made c.requires.armed machine c.requires.fresh h c.requires.empty in
+    let is : outside made ≡ made_outside was = λ i. record { found = (h.made.found ∙ c.requires.found) i; taken = was.taken; falls = c.requires.fresh.falls i; syncs = h.made.run.made i } in
+    let fits : FitsDown Nothing (first_standing made.machine) made = first_fits was made c.requires.armed machine c.requires.fresh h refl c.requires.empty in
     let mid = moment g.C.Core.meaning g.C.Core.view g.L.Disk.state g.W.Draws.block_of g.K.Sink.taken g.K.Sink.faults c.reopen-memory.result.0 c.reopen-memory.new.counts c.reopen-memory.new.output in
     let now = moment g.C.Core.meaning g.C.Core.view g.L.Disk.state g.W.Draws.block_of g.K.Sink.taken g.K.Sink.faults c.carry_lines.result.0 c.carry_lines.new.counts c.carry_lines.new.output in
     let went = went_on c.reopen-memory.result.1 (sym c.is_err.ensures.value ∙ c.if-is_err.false) in

@@ -36,6 +36,7 @@ returns g c = λ k sits.
             b,
             (λ serves. record {
               phase = refl;
+              trial = refl;
               known = (omega (arith, c.requires.within), fits.known);
               lines = refl;
               power_ons = refl;
@@ -48,7 +49,7 @@ returns g c = λ k sits.
               explained = fits.explained;
             }),
             said M r (item_meaning M B (Item.Alter c.args.side c.args.at c.args.mask)) a b (outside was) (outside now) new (altered_line c.args.side c.args.at) c.alter.ensures.found refl
-                (moves_on a b (outside was) (outside now) (omega arith) (omega arith) (ap (λ (n : ℕ). n + s.syncs) c.alter.ensures.counts.syncs)) (λ x whole. alter_tells M B k.lap m a x) fits.explained
+                (moves_on a b (outside was) (outside now) (omega arith) (omega arith) (ap (λ (n : ℕ). n + s.syncs) c.alter.ensures.counts.syncs)) (λ x whole. alter_tells M B k.lap m a x refl) fits.explained
                 (armed_length s.armed new.armed armed) holds
                 (subst (GivesText r _ _) (c.push_altered_line.ensures.bytes ∙ ap (λ (bytes : List ℕ). bytes ++ altered_line c.args.side c.args.at) c.clear.ensures) given.given),
           ));

@@ -18,7 +18,7 @@ pub returns-then-is_at_limit-clause-does : goal.returns-then-is_at_limit-clause-
 returns-then-is_at_limit-clause-does g c =
     let cut : ArmedCut = record { unit = c.args.unit; count = c.args.count; torn = c.args.torn } in
     arm_stops cut (moment g.C.Core.meaning g.C.Core.view g.L.Disk.state g.W.Draws.block_of g.K.Sink.taken g.K.Sink.faults c.args.memory c.args.counts.now c.args.output.now)
-    (sym c.is_at_limit.ensures ∙ c.if-is_at_limit.true) c.requires.sits
+    refl (sym c.is_at_limit.ensures ∙ c.if-is_at_limit.true) c.requires.sits
 
 pub returns-clause-does : goal.returns-clause-does
 returns-clause-does g c =
@@ -29,6 +29,8 @@ returns-clause-does g c =
     arm_does cut (moment g.C.Core.meaning g.C.Core.view g.L.Disk.state g.W.Draws.block_of g.K.Sink.taken g.K.Sink.faults c.args.memory c.args.counts.now c.args.output.now)
     (moment g.C.Core.meaning g.C.Core.view g.L.Disk.state g.W.Draws.block_of g.K.Sink.taken g.K.Sink.faults c.arm_disk-armed.result (record c.args.counts.now { calls = c.push.new.self }) c.give_text-given.new.output)
     (record {
+      was_trial = refl;
+      trial = refl;
       machine = ap g.C.Core.meaning arms.core;
       blocks = λ lap index. ap (λ w. g.W.Draws.block_of w lap index) arms.draws;
       view = ap g.C.Core.view arms.core;

@@ -1,7 +1,7 @@
-use Rattle.std.proofs.Common.{◌≡◌, ◌∙◌, ap, sym, subst, refl, ◌+◌, ◌≤◌, length, arith, Result, Ok}
+use Rattle.std.proofs.Common.{◌≡◌, ◌∙◌, ap, sym, subst, refl, ◌+◌, ◌≤◌, length, arith, false, Result, Ok}
 use Rattle.gd_top.specs.Code.Memory.{moment, moment_closed, memory_disk, memory_phase, Fits, Sits}
 use Rattle.gd_top.specs.Run.State.{Off, Locked}
-use Rattle.gd_top.proofs.ItemLemmas.Clearing.{ComesTo, clear_begins, clear_line, clear_stops, cleared_rest, comes_again, comes_broke, comes_does, comes_failed, comes_fell, comes_made, comes_open, comes_reopened, making_rest, some_cut, was_cut, was_faulted}
+use Rattle.gd_top.proofs.ItemLemmas.Clearing.{ComesTo, IsCleared, comes_as, clear_begins, clear_line, clear_stops, cleared_rest, comes_again, comes_broke, comes_does, comes_failed, comes_fell, comes_made, comes_open, comes_reopened, limit_in_trial, making_rest, some_cut, was_cut, was_faulted}
 use Rattle.gd_cabinet.specs.declared.cabinet.Parts.{Parts}
 use Rattle.gd_top.specs.Run.Offers.{syncs_of_making}
 use Rattle.gd_top.specs.declared.halt.Halt.{Halt}
@@ -18,7 +18,7 @@ not_locked (Memory.Locked parts) none is = none parts refl
 
 pub returns-then-is_at_limit-clause-does : goal.returns-then-is_at_limit-clause-does
 returns-then-is_at_limit-clause-does g c =
-    clear_stops (moment_closed Locked g.C.Core.meaning g.C.Core.view g.L.Disk.state g.W.Draws.block_of g.K.Sink.taken g.K.Sink.faults c.args.parts c.args.counts.now c.args.output.now) refl c.requires.sits
+    clear_stops (moment_closed Locked g.C.Core.meaning g.C.Core.view g.L.Disk.state g.W.Draws.block_of g.K.Sink.taken g.K.Sink.faults c.args.parts c.args.counts.now c.args.output.now) refl refl c.requires.sits
     (sym c.is_at_limit.ensures ∙ c.if-is_at_limit.true)
 
 pub loop-made-init : goal.loop-made-init
@@ -27,7 +27,7 @@ loop-made-init g c =
     let sits = c.requires.sits in
     let test = sym c.is_at_limit.ensures ∙ c.if-is_at_limit.false in
     record {
-      comes = clear_begins was refl sits test;
+      comes = clear_begins was refl (limit_in_trial was refl sits false test);
       sits = sits;
       room = omega (arith, calls_many was.counts.calls.items was.disk.armed sits.counted.calls, below (was.counts.power_ons + length was.counts.calls.items) test);
       lines = refl;
@@ -43,8 +43,8 @@ returns-in-Ok-clause-does g c =
     let made = moment_closed Off g.C.Core.meaning g.C.Core.view g.L.Disk.state g.W.Draws.block_of g.K.Sink.taken g.K.Sink.faults c.in-Ok.made (record k { lap = k.lap + 1; offers = k.offers + 1 }) c.loop-made.output in
     let now = moment g.C.Core.meaning g.C.Core.view g.L.Disk.state g.W.Draws.block_of g.K.Sink.taken g.K.Sink.faults c.open_cleared.result.0 c.open_cleared.new.counts c.open_cleared.new.output in
     comes_does clear_line cleared_rest c.open_cleared.result.1 was made now
-    (comes_made was mid refl c.loop-made.invariant.comes (g.C.Core.meaning c.clear.new.self) (g.C.Core.view c.clear.new.self) c.clear.ensures.same c.clear.ensures.view made c.loop-made.invariant.sits refl c.in-Ok.ensures.made
-    (ap g.C.Core.meaning c.in-Ok.ensures.core ∙ c.clear.ensures.same) (λ lap index. ap (λ d. g.W.Draws.block_of d lap index) c.in-Ok.ensures.draws) refl refl refl)
+    (comes_as clear_line cleared_rest (IsCleared made) (λ t. Fits t made) was made (λ t p. p.0) (comes_made was mid refl c.loop-made.invariant.comes (g.C.Core.meaning c.clear.new.self) (g.C.Core.view c.clear.new.self) c.clear.ensures.same c.clear.ensures.view made refl c.loop-made.invariant.sits refl c.in-Ok.ensures.made.made
+    (ap g.C.Core.meaning c.in-Ok.ensures.core ∙ c.clear.ensures.same) (λ lap index. ap (λ d. g.W.Draws.block_of d lap index) c.in-Ok.ensures.draws) refl refl refl))
     c.open_cleared.ensures.does
 
 pub returns-then-cuts_armed-armed-clause-does : goal.returns-then-cuts_armed-armed-clause-does
@@ -72,7 +72,7 @@ loop-made-preserved g c =
     let down = moment_closed Off g.C.Core.meaning g.C.Core.view g.L.Disk.state g.W.Draws.block_of g.K.Sink.taken g.K.Sink.faults c.in-Err.left c.fall.new.self c.loop-made.output in
     let un = c.in-Err.ensures.unmade in
     let cut = was_cut syncs_of_making mid.disk down.disk (omega (arith, c.if-cuts_armed-armed.false, c.cuts_armed.ensures, c.cuts_armed-armed.ensures)) un.failed in
-    let comes = comes_fell was mid refl c.loop-made.invariant.comes (g.C.Core.meaning c.clear.new.self) (g.C.Core.view c.clear.new.self) c.clear.ensures.same c.clear.ensures.view down c.loop-made.invariant.sits cut
+    let comes = comes_fell was mid refl c.loop-made.invariant.comes (g.C.Core.meaning c.clear.new.self) (g.C.Core.view c.clear.new.self) c.clear.ensures.same c.clear.ensures.view down refl c.loop-made.invariant.sits cut
     (un.near (c.loop-made.invariant.sits.synced refl)) un.found (ap g.C.Core.meaning c.in-Err.ensures.kept.0 ∙ c.clear.ensures.same) (λ lap index. ap (λ d. g.W.Draws.block_of d lap index) c.in-Err.ensures.kept.1) refl refl
     c.fall.ensures.lines c.fall.ensures.power_ons c.fall.ensures.lap c.fall.ensures.offers c.fall.ensures.falls in
     let now = moment g.C.Core.meaning g.C.Core.view g.L.Disk.state g.W.Draws.block_of g.K.Sink.taken g.K.Sink.faults c.open_once-memory.result.0 c.open_once-memory.new.counts c.open_once-memory.new.output in
@@ -101,7 +101,7 @@ returns-in_default g c =
     let down = moment_closed Off g.C.Core.meaning g.C.Core.view g.L.Disk.state g.W.Draws.block_of g.K.Sink.taken g.K.Sink.faults c.in-Err.left c.fall.new.self c.loop-made.output in
     let un = c.in-Err.ensures.unmade in
     let cut = was_cut syncs_of_making mid.disk down.disk (omega (arith, c.if-cuts_armed-armed.false, c.cuts_armed.ensures, c.cuts_armed-armed.ensures)) un.failed in
-    let comes = comes_fell was mid refl c.loop-made.invariant.comes (g.C.Core.meaning c.clear.new.self) (g.C.Core.view c.clear.new.self) c.clear.ensures.same c.clear.ensures.view down c.loop-made.invariant.sits cut
+    let comes = comes_fell was mid refl c.loop-made.invariant.comes (g.C.Core.meaning c.clear.new.self) (g.C.Core.view c.clear.new.self) c.clear.ensures.same c.clear.ensures.view down refl c.loop-made.invariant.sits cut
     (un.near (c.loop-made.invariant.sits.synced refl)) un.found (ap g.C.Core.meaning c.in-Err.ensures.kept.0 ∙ c.clear.ensures.same) (λ lap index. ap (λ d. g.W.Draws.block_of d lap index) c.in-Err.ensures.kept.1) refl refl
     c.fall.ensures.lines c.fall.ensures.power_ons c.fall.ensures.lap c.fall.ensures.offers c.fall.ensures.falls in
     let now = moment g.C.Core.meaning g.C.Core.view g.L.Disk.state g.W.Draws.block_of g.K.Sink.taken g.K.Sink.faults c.open_once-memory.result.0 c.open_once-memory.new.counts c.open_once-memory.new.output in
@@ -123,7 +123,7 @@ returns-in-Fell-clause-does g c =
     let down = moment_closed Off g.C.Core.meaning g.C.Core.view g.L.Disk.state g.W.Draws.block_of g.K.Sink.taken g.K.Sink.faults c.in-Err.left c.fall.new.self c.loop-made.output in
     let un = c.in-Err.ensures.unmade in
     let cut = was_cut syncs_of_making mid.disk down.disk (omega (arith, c.if-cuts_armed-armed.false, c.cuts_armed.ensures, c.cuts_armed-armed.ensures)) un.failed in
-    let comes = comes_fell was mid refl c.loop-made.invariant.comes (g.C.Core.meaning c.clear.new.self) (g.C.Core.view c.clear.new.self) c.clear.ensures.same c.clear.ensures.view down c.loop-made.invariant.sits cut
+    let comes = comes_fell was mid refl c.loop-made.invariant.comes (g.C.Core.meaning c.clear.new.self) (g.C.Core.view c.clear.new.self) c.clear.ensures.same c.clear.ensures.view down refl c.loop-made.invariant.sits cut
     (un.near (c.loop-made.invariant.sits.synced refl)) un.found (ap g.C.Core.meaning c.in-Err.ensures.kept.0 ∙ c.clear.ensures.same) (λ lap index. ap (λ d. g.W.Draws.block_of d lap index) c.in-Err.ensures.kept.1) refl refl
     c.fall.ensures.lines c.fall.ensures.power_ons c.fall.ensures.lap c.fall.ensures.offers c.fall.ensures.falls in
     let now = moment g.C.Core.meaning g.C.Core.view g.L.Disk.state g.W.Draws.block_of g.K.Sink.taken g.K.Sink.faults c.open_once-memory.result.0 c.open_once-memory.new.counts c.open_once-memory.new.output in
@@ -143,7 +143,7 @@ returns-in-Err-ended-clause-does g c =
     let down = moment_closed Off g.C.Core.meaning g.C.Core.view g.L.Disk.state g.W.Draws.block_of g.K.Sink.taken g.K.Sink.faults c.in-Err.left c.fall.new.self c.loop-made.output in
     let un = c.in-Err.ensures.unmade in
     let cut = was_cut syncs_of_making mid.disk down.disk (omega (arith, c.if-cuts_armed-armed.false, c.cuts_armed.ensures, c.cuts_armed-armed.ensures)) un.failed in
-    let comes = comes_fell was mid refl c.loop-made.invariant.comes (g.C.Core.meaning c.clear.new.self) (g.C.Core.view c.clear.new.self) c.clear.ensures.same c.clear.ensures.view down c.loop-made.invariant.sits cut
+    let comes = comes_fell was mid refl c.loop-made.invariant.comes (g.C.Core.meaning c.clear.new.self) (g.C.Core.view c.clear.new.self) c.clear.ensures.same c.clear.ensures.view down refl c.loop-made.invariant.sits cut
     (un.near (c.loop-made.invariant.sits.synced refl)) un.found (ap g.C.Core.meaning c.in-Err.ensures.kept.0 ∙ c.clear.ensures.same) (λ lap index. ap (λ d. g.W.Draws.block_of d lap index) c.in-Err.ensures.kept.1) refl refl
     c.fall.ensures.lines c.fall.ensures.power_ons c.fall.ensures.lap c.fall.ensures.offers c.fall.ensures.falls in
     let now = moment g.C.Core.meaning g.C.Core.view g.L.Disk.state g.W.Draws.block_of g.K.Sink.taken g.K.Sink.faults c.open_once-memory.result.0 c.open_once-memory.new.counts c.open_once-memory.new.output in

@@ -12,12 +12,14 @@ use Rattle.gd_top.specs.Code.Parts.{GivesText}
 use Rattle.gd_top.specs.Report.AnswerText.{answer_text}
 use Rattle.gd_top.specs.Run.Items.{event_meaning}
 use Rattle.gd_top.specs.Run.Offers.{syncs_of_event}
-use Rattle.gd_top.specs.Run.State.{Off}
+use Rattle.gd_top.specs.Run.State.{Off, Locked, prints}
+use Rattle.gd_top.specs.Report.Lines.{locked_line}
 use Rattle.gd_top.specs.declared.halt.Halt.{Halt}
 use Rattle.gd_top.specs.declared.memory.Memory.{Memory}
 use Rattle.gd_top.specs.declared.memory.counts.Counts.{Counts}
 use Rattle.gd_top.proofs.ItemLemmas.EventEnds.{IsAnswered, IsCounted, answers_new, answers_still, event_faulted, event_down, event_fallen, failed_event, failed_closed}
 use Rattle.gd_top.proofs.ItemLemmas.EventLoop.{not_offered, opened_at, offered_then, pending_more, reopening_failed, stands_open, stands_locked}
+use Rattle.gd_top.proofs.ItemLemmas.Lines.{says_here}
 use Rattle.gd_top.proofs.RunLemmas.Said.{not_true}
 use Rattle.gd_top.proofs.item.event.carry_event.Goals.{then-is_new, else-is_new}
 use Rattle.gd_top.proofs.item.event.carry_event.Goals as goal
@@ -47,6 +49,7 @@ returns-in-Ok-clause-does g c =
       is_on = c.in-Ok.ensures.is_on.1;
       runs = not_true (cabinet_stopped cabinet) (λ is. cc (c.in-Ok.ensures.off.1 is));
       lap = c.in-Ok.ensures.lap;
+      trial = refl;
       found = c.in-Ok.ensures.found;
       machine = c.in-Ok.ensures.meaning;
       blocks = c.in-Ok.ensures.draws;
@@ -82,7 +85,7 @@ reopen-memory-requires-clause-down g c =
     let off = moment_on g.C.Core.meaning g.C.Core.view g.L.Disk.state g.W.Draws.block_of g.K.Sink.taken g.K.Sink.faults c.submit.new.self (record k { offers = k.offers + 1 }) c.loop-answer.output in
     let failed = failed_event {T = Answer} e mid off sits c.in-Err.field-0 (c.in-Err.ensures.syncs sits.runs) c.in-Err.ensures.run (c.in-Err.ensures.any_moment sits.runs) c.in-Err.ensures.found refl refl c.in-Err.ensures.meaning c.in-Err.ensures.draws in
     let down = moment_closed Off g.C.Core.meaning g.C.Core.view g.L.Disk.state g.W.Draws.block_of g.K.Sink.taken g.K.Sink.faults c.close.result c.fall.new.self c.loop-answer.output in
-    let counted : IsCounted mid down = record { offers = c.fall.ensures.offers; power_ons = c.fall.ensures.power_ons; lines = c.fall.ensures.lines; lap = c.fall.ensures.lap; given = c.fall.ensures.given; calls = c.fall.ensures.calls; falls = c.fall.ensures.falls } in
+    let counted : IsCounted mid down = record { trial = refl; offers = c.fall.ensures.offers; power_ons = c.fall.ensures.power_ons; lines = c.fall.ensures.lines; lap = c.fall.ensures.lap; given = c.fall.ensures.given; calls = c.fall.ensures.calls; falls = c.fall.ensures.falls } in
     let cut = was_cut syncs_of_event c.in-Err.field-0 mid.disk off.disk failed.1 sits.power (omega (arith, c.cuts_armed-armed.ensures, c.cuts_armed.ensures, c.if-cuts_armed-armed.false)) in
     let disk = ap g.L.Disk.state c.close.ensures.disk in
     let cut_off = subst (λ (d : DiskState). IsCutOff syncs_of_event mid.disk d) (sym disk) cut in
@@ -99,7 +102,7 @@ returns-then-is_err-clause-does g c =
     let off = moment_on g.C.Core.meaning g.C.Core.view g.L.Disk.state g.W.Draws.block_of g.K.Sink.taken g.K.Sink.faults c.submit.new.self (record k { offers = k.offers + 1 }) c.loop-answer.output in
     let failed = failed_event {T = Answer} e mid off sits c.in-Err.field-0 (c.in-Err.ensures.syncs sits.runs) c.in-Err.ensures.run (c.in-Err.ensures.any_moment sits.runs) c.in-Err.ensures.found refl refl c.in-Err.ensures.meaning c.in-Err.ensures.draws in
     let down = moment_closed Off g.C.Core.meaning g.C.Core.view g.L.Disk.state g.W.Draws.block_of g.K.Sink.taken g.K.Sink.faults c.close.result c.fall.new.self c.loop-answer.output in
-    let counted : IsCounted mid down = record { offers = c.fall.ensures.offers; power_ons = c.fall.ensures.power_ons; lines = c.fall.ensures.lines; lap = c.fall.ensures.lap; given = c.fall.ensures.given; calls = c.fall.ensures.calls; falls = c.fall.ensures.falls } in
+    let counted : IsCounted mid down = record { trial = refl; offers = c.fall.ensures.offers; power_ons = c.fall.ensures.power_ons; lines = c.fall.ensures.lines; lap = c.fall.ensures.lap; given = c.fall.ensures.given; calls = c.fall.ensures.calls; falls = c.fall.ensures.falls } in
     let cut = was_cut syncs_of_event c.in-Err.field-0 mid.disk off.disk failed.1 sits.power (omega (arith, c.cuts_armed-armed.ensures, c.cuts_armed.ensures, c.if-cuts_armed-armed.false)) in
     let disk = ap g.L.Disk.state c.close.ensures.disk in
     let cut_off = subst (λ (d : DiskState). IsCutOff syncs_of_event mid.disk d) (sym disk) cut in
@@ -119,7 +122,7 @@ loop-answer-preserved g c =
     let off = moment_on g.C.Core.meaning g.C.Core.view g.L.Disk.state g.W.Draws.block_of g.K.Sink.taken g.K.Sink.faults c.submit.new.self (record k { offers = k.offers + 1 }) c.loop-answer.output in
     let failed = failed_event {T = Answer} e mid off sits c.in-Err.field-0 (c.in-Err.ensures.syncs sits.runs) c.in-Err.ensures.run (c.in-Err.ensures.any_moment sits.runs) c.in-Err.ensures.found refl refl c.in-Err.ensures.meaning c.in-Err.ensures.draws in
     let down = moment_closed Off g.C.Core.meaning g.C.Core.view g.L.Disk.state g.W.Draws.block_of g.K.Sink.taken g.K.Sink.faults c.close.result c.fall.new.self c.loop-answer.output in
-    let counted : IsCounted mid down = record { offers = c.fall.ensures.offers; power_ons = c.fall.ensures.power_ons; lines = c.fall.ensures.lines; lap = c.fall.ensures.lap; given = c.fall.ensures.given; calls = c.fall.ensures.calls; falls = c.fall.ensures.falls } in
+    let counted : IsCounted mid down = record { trial = refl; offers = c.fall.ensures.offers; power_ons = c.fall.ensures.power_ons; lines = c.fall.ensures.lines; lap = c.fall.ensures.lap; given = c.fall.ensures.given; calls = c.fall.ensures.calls; falls = c.fall.ensures.falls } in
     let cut = was_cut syncs_of_event c.in-Err.field-0 mid.disk off.disk failed.1 sits.power (omega (arith, c.cuts_armed-armed.ensures, c.cuts_armed.ensures, c.if-cuts_armed-armed.false)) in
     let disk = ap g.L.Disk.state c.close.ensures.disk in
     let cut_off = subst (λ (d : DiskState). IsCutOff syncs_of_event mid.disk d) (sym disk) cut in
@@ -140,7 +143,7 @@ returns-in-Locked-clause-does g c =
     let off = moment_on g.C.Core.meaning g.C.Core.view g.L.Disk.state g.W.Draws.block_of g.K.Sink.taken g.K.Sink.faults c.submit.new.self (record k { offers = k.offers + 1 }) c.loop-answer.output in
     let failed = failed_event {T = Answer} e mid off sits c.in-Err.field-0 (c.in-Err.ensures.syncs sits.runs) c.in-Err.ensures.run (c.in-Err.ensures.any_moment sits.runs) c.in-Err.ensures.found refl refl c.in-Err.ensures.meaning c.in-Err.ensures.draws in
     let down = moment_closed Off g.C.Core.meaning g.C.Core.view g.L.Disk.state g.W.Draws.block_of g.K.Sink.taken g.K.Sink.faults c.close.result c.fall.new.self c.loop-answer.output in
-    let counted : IsCounted mid down = record { offers = c.fall.ensures.offers; power_ons = c.fall.ensures.power_ons; lines = c.fall.ensures.lines; lap = c.fall.ensures.lap; given = c.fall.ensures.given; calls = c.fall.ensures.calls; falls = c.fall.ensures.falls } in
+    let counted : IsCounted mid down = record { trial = refl; offers = c.fall.ensures.offers; power_ons = c.fall.ensures.power_ons; lines = c.fall.ensures.lines; lap = c.fall.ensures.lap; given = c.fall.ensures.given; calls = c.fall.ensures.calls; falls = c.fall.ensures.falls } in
     let cut = was_cut syncs_of_event c.in-Err.field-0 mid.disk off.disk failed.1 sits.power (omega (arith, c.cuts_armed-armed.ensures, c.cuts_armed.ensures, c.if-cuts_armed-armed.false)) in
     let disk = ap g.L.Disk.state c.close.ensures.disk in
     let cut_off = subst (λ (d : DiskState). IsCutOff syncs_of_event mid.disk d) (sym disk) cut in
@@ -149,6 +152,8 @@ returns-in-Locked-clause-does g c =
     let stands : Memory g.row.C.Denot g.row.L.Denot g.row.W.Denot g.C.Core g.L.Disk g.W.Draws → Moment g.C.Core.View = λ memory. moment g.C.Core.meaning g.C.Core.view g.L.Disk.state g.W.Draws.block_of g.K.Sink.taken g.K.Sink.faults memory c.reopen-memory.new.counts c.reopen-memory.new.output in
     let now = stands (Memory.Locked c.in-Locked.parts) in
     let does = opened_at stands c.reopen-memory.result.0 (Memory.Locked c.in-Locked.parts) c.in-Locked.is down c.reopen-memory.result.1 (sym c.is_err.ensures.value ∙ c.if-is_err.false) c.reopen-memory.ensures.does in
-    let r = c.tell_lock.result.1 in
-    let next = moment g.C.Core.meaning g.C.Core.view g.L.Disk.state g.W.Draws.block_of g.K.Sink.taken g.K.Sink.faults c.tell_lock.result.0 c.reopen-memory.new.counts c.tell_lock.new.output in
-    offered_then e was mid next r c.loop-answer.invariant.pending (stands_locked e mid down fell now does refl r next (c.tell_lock.ensures c.reopen-memory.new.counts (does.leaves.sits tt)))
+    let r = c.tell_lock-given.result in
+    let given = c.tell_lock-given.ensures in
+    let next = moment_closed Locked g.C.Core.meaning g.C.Core.view g.L.Disk.state g.W.Draws.block_of g.K.Sink.taken g.K.Sink.faults c.in-Locked.parts c.reopen-memory.new.counts c.tell_lock-given.new.output in
+    offered_then e was mid next r c.loop-answer.invariant.pending
+    (stands_locked e mid down fell now does refl r next (says_here now (λ M B. prints locked_line) r _ _ locked_line (does.leaves.sits tt) (λ s x. refl) given.given given.later given.cause))

@@ -18,7 +18,7 @@ use Rattle.gd_top.specs.Report.Lines.{differs_line, is_found_full, locked_line, 
 use Rattle.gd_top.specs.Run.State.{Off, Locked}
 use Rattle.gd_top.specs.declared.memory.counts.Counts.{Counts}
 use Rattle.gd_top.proofs.ItemLemmas.Images.{core_shows, full_is, lost_shows, opening_near, shut_synced, some_at, told_at}
-use Rattle.gd_top.proofs.ItemLemmas.OpenedSo.{CountsOpened, differs_to, fell_to, failed_to, locked_to, unpowered_to, unread_to, viewed_to}
+use Rattle.gd_top.proofs.ItemLemmas.OpenedSo.{CountsOpened, agrees_of, clear_of, differs_to, empty_for, fell_to, failed_to, locked_lap, locked_to, read_of, shut_of, unpowered_to, unread_to, viewed_to}
 use Rattle.gd_top.proofs.ItemLemmas.OpeningMoments.{IsReady, IsUnready, counted_after, down_after, fewer_after, has_read, lap_room, left_by, lost_by, read_alone, opens_differs, opens_failed, opens_fell, opens_stands, opens_unread, over_core, still_after, unread_of}
 use Rattle.gd_top.proofs.RunLemmas.Said.{err_of, ok_of}
 use Rattle.gd_top.proofs.item.opening.open_once.Goals as goal
@@ -107,7 +107,7 @@ returns-then-cuts_armed-armed-clause-does g c =
     let falls = c.fall.ensures.falls ∙ ap (λ (x : Counts). x.falls.items ++ falls_by x.calls.items (x.offers + 1)) counted in
     subst (λ ended. Opens c.args.is_making ended was now) (sym c.unless_failed-then-cuts_armed-armed.ensures)
     (opens_fell c.args.is_making was now lap counts machine (λ l i. c.in-Off-Some-default.ensures.draws l i ∙ ap (λ draws. g.W.Draws.block_of draws l i) c.find_lap.ensures.draws) r _ gives given.later given.cause
-    (λ flight wanted in_it s fits. fell_to c.args.is_making was mid lap image read now (c.in-Off-Some-default.ensures.found ∙ d.found ∙ h.listed) machine counts flight wanted in_it s fits v unready.shown r cut down.calls falls unready.either gives)
+    (λ flight wanted in_it s fits. fell_to c.args.is_making was mid lap image read now (c.in-Off-Some-default.ensures.found ∙ d.found ∙ h.listed) machine refl counts flight wanted s (agrees_of flight s was fits) v unready.shown (read_of c.args.is_making was mid lap image read h.could_be s wanted c.args.is_making flight in_it read.lap_found fits v unready.shown) r cut down.calls falls unready.either gives)
     (down_after c.args.is_making was _ lap mid now down read.armed (d.size ∙ c.power_on.ensures.counts.size) cut machine (c.fall.ensures.given ∙ ap (λ (x : Counts). x.given) counted) c.in-Off-Some-default.ensures.size c.in-Off-Some-default.ensures.is_off
     (lap_room c.args.is_making was c.args.is_making mid lap image down.tells read.seen read.lap_found down.laps c.requires.making) c.fall.ensures.lap counts.power_ons
     (c.fall.ensures.calls ∙ ap (λ (x : Counts). drop 1 x.calls.items) counted) falls)
@@ -160,7 +160,7 @@ returns-in-Ready-clause-does g c =
     let cuts = counted_after c.args.is_making was _ mid now down read.armed ready.run same_calls power_ons in
     subst (λ ended. Opens c.args.is_making ended was now) (sym c.unless_failed.ensures)
     (opens_stands c.args.is_making was now lap counts machine (λ l i. c.in-Ready.ensures.draws l i ∙ ap (λ draws. g.W.Draws.block_of draws l i) c.find_lap.ensures.draws) r _ gives given.later given.cause
-    (λ flight wanted in_it s fits. viewed_to c.args.is_making was mid lap image read now (c.in-Ready.ensures.found ∙ d.found ∙ h.listed) machine counts flight wanted in_it s fits v ready.shown r refl ready.started (_, cabinet.spelled) ready.run
+    (λ flight wanted in_it s fits. viewed_to c.args.is_making was mid lap image read now (c.in-Ready.ensures.found ∙ d.found ∙ h.listed) machine refl counts flight wanted s (agrees_of flight s was fits) v ready.shown (read_of c.args.is_making was mid lap image read h.could_be s wanted c.args.is_making flight in_it read.lap_found fits v ready.shown) r refl ready.started (_, cabinet.spelled) ready.run
     (ap (λ (x : Counts). x.falls.items) counted) ready.both gives)
     (record {
       tells = subst TellsViews (sym machine) down.tells;
@@ -219,7 +219,7 @@ returns-in-Locked-clause-does g c =
     let cuts = counted_after c.args.is_making was _ mid now down read.armed run same_calls power_ons in
     subst (λ ended. Opens c.args.is_making ended was now) (sym c.unless_failed-in-Locked.ensures)
     (opens_stands c.args.is_making was now lap counts machine (λ l i. c.in-Locked.ensures.draws l i ∙ ap (λ draws. g.W.Draws.block_of draws l i) c.find_lap.ensures.draws) r _ gives given.later given.cause
-    (λ flight wanted in_it s fits. locked_to c.args.is_making was mid lap image read now (c.in-Locked.ensures.found ∙ d.found ∙ h.listed) machine counts flight wanted in_it s fits r refl shut untouched.2 untouched.1
+    (λ flight wanted in_it s fits. locked_to c.args.is_making was mid lap image read now (c.in-Locked.ensures.found ∙ d.found ∙ h.listed) machine refl counts flight wanted s (agrees_of flight s was fits) (shut_of c.args.is_making was mid lap image read h.could_be s wanted flight fits shut) (locked_lap c.args.is_making was mid lap image read h.could_be s wanted c.args.is_making read.lap_found shut) (λ wants. empty_for c.args.is_making was mid lap image read h.could_be s wanted c.args.is_making flight wanted in_it wants fits) r refl shut untouched.2 untouched.1
     (ap (λ (x : Counts). x.falls.items) counted) (read_alone mid disk image read.seen read.synced unwritten) gives)
     (record {
       tells = subst TellsViews (sym machine) down.tells;
@@ -278,7 +278,7 @@ returns-in-Differs-clause-does g c =
     let gives = subst (GivesText r _ _) text given.given in
     subst (λ ended. Opens c.args.is_making ended was now) (sym c.unless_failed-in-Differs.ensures)
     (opens_differs c.args.is_making was now lap counts machine (λ l i. c.in-Differs.ensures.draws l i ∙ ap (λ draws. g.W.Draws.block_of draws l i) c.find_lap.ensures.draws) r _ gives given.later given.cause
-    (λ flight wanted in_it s fits. differs_to c.args.is_making was mid lap image read now (c.in-Differs.ensures.found ∙ d.found ∙ h.listed) machine counts flight wanted in_it s fits r kept shown untouched.2 untouched.1
+    (λ flight wanted in_it s fits. differs_to c.args.is_making was mid lap image read now (c.in-Differs.ensures.found ∙ d.found ∙ h.listed) machine refl counts flight wanted s (agrees_of flight s was fits) (clear_of c.args.is_making was mid lap image read h.could_be s wanted flight fits kept shown) r kept shown untouched.2 untouched.1
     (ap (λ (x : Counts). x.falls.items) counted) (read_alone mid disk image read.seen read.synced unwritten) c.in-Differs.ensures.stays_on.0 (shut_synced mid disk image read.seen read.synced unwritten untouched.0) gives))
 
 pub returns-else-cuts_armed-armed-clause-does : goal.returns-else-cuts_armed-armed-clause-does
@@ -322,7 +322,7 @@ returns-else-cuts_armed-armed-clause-does g c =
     let gives = subst (GivesText r _ _) text given.given in
     subst (λ ended. Opens c.args.is_making ended was now) (sym c.unless_failed-in-Off-Some-default.ensures)
     (opens_failed c.args.is_making was now lap counts machine (λ l i. c.in-Off-Some-default.ensures.draws l i ∙ ap (λ draws. g.W.Draws.block_of draws l i) c.find_lap.ensures.draws) r _ gives given.later given.cause
-    (λ flight wanted in_it s fits. failed_to c.args.is_making was mid lap image read now (c.in-Off-Some-default.ensures.found ∙ d.found ∙ h.listed) machine counts flight wanted in_it s fits v unready.shown r fault
+    (λ flight wanted in_it s fits. failed_to c.args.is_making was mid lap image read now (c.in-Off-Some-default.ensures.found ∙ d.found ∙ h.listed) machine refl counts flight wanted s (agrees_of flight s was fits) v unready.shown (read_of c.args.is_making was mid lap image read h.could_be s wanted c.args.is_making flight in_it read.lap_found fits v unready.shown) r fault
     (ap (λ (x : Counts). x.falls.items) counted) unready.either gives)
     (subst (λ (m : ℕ). Rose m disk.faults) (ok_of c.find_lap.result _ went d.no_fault ∙ ok_of c.power_on.result _ ok c.power_on.ensures.no_fault) fault.fault))
 

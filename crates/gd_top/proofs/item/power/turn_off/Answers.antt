@@ -45,6 +45,7 @@ returns g c = λ k sits.
             b,
             (λ serves. record {
               phase = refl;
+              trial = refl;
               known = tt;
               lines = refl;
               power_ons = refl;
@@ -58,7 +59,7 @@ returns g c = λ k sits.
             }),
             said M r (item_meaning M B Item.Off) a b (outside was) (outside now) off (codes "off\n") (c.power_off.ensures.found ∙ ap (λ d. (g.L.Disk.state d).found) same) refl
                 (moves_on a b (outside was) (outside now) (omega arith) (omega arith) (ap (λ (n : ℕ). n + s.syncs) (c.power_off.ensures.counts.syncs ∙ ap (λ d. (g.L.Disk.state d).syncs) same)))
-                (λ x whole. off_tells M B k.lap v w a x (ap g.C.Core.view c.close-parts.ensures.core)) fits.explained (armed_length s.armed off.armed armed) holds
+                (λ x whole. off_tells M B k.lap v w a x refl (ap g.C.Core.view c.close-parts.ensures.core)) fits.explained (armed_length s.armed off.armed armed) holds
                 (subst (GivesText r _ _) (c.push_str.ensures.bytes ∙ ap (λ (bytes : List ℕ). bytes ++ codes "off\n") c.clear.ensures) given.given),
           ));
       leaves = record {
