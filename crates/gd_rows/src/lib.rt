@@ -10,8 +10,6 @@ mod clearings;
 #[cfg(test)]
 mod faults;
 #[cfg(test)]
-mod images;
-#[cfg(test)]
 mod money;
 #[cfg(test)]
 mod payouts;
