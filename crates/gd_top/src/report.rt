@@ -3,5 +3,3 @@
 pub(crate) mod dropped;
 pub(crate) mod lines;
 pub(crate) mod telling;
-#[cfg(test)]
-mod tests;

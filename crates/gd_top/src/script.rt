@@ -2,5 +2,3 @@
 
 pub(crate) mod carrying;
 pub(crate) mod reader;
-#[cfg(test)]
-mod tests;
