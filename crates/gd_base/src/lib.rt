@@ -25,8 +25,6 @@ mod sink;
 mod source;
 mod step;
 mod tables;
-#[cfg(test)]
-mod tests;
 mod text;
 mod wager;
 

@@ -5,8 +5,6 @@ mod cabinet;
 mod idling;
 mod opening;
 mod submitting;
-#[cfg(test)]
-mod tests;
 
 pub use cabinet::{Cabinet, Parts};
 use gd_base::{MOST_ENTRIES, PAYLOAD_LEN};

@@ -7,8 +7,6 @@ mod dealing;
 mod deck;
 mod hand;
 mod ranking;
-#[cfg(test)]
-mod tests;
 
 pub use colours::colour;
 pub use dealing::{deal, replace};

@@ -50,7 +50,7 @@ impl FileDisk {
     }
 
     /// The disk over an open file, or one that is off.
-    pub(crate) fn over(file: Option<File>) -> FileDisk
+    fn over(file: Option<File>) -> FileDisk
         ensures fresh { HasDoneNothing (file_state result) }
         ensures on { (file_state result).is_on ≡ is_some file }
     {

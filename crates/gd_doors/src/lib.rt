@@ -2,7 +2,5 @@
 #![tactic(auto)]
 
 mod conditions;
-#[cfg(test)]
-mod tests;
 
 pub use conditions::Conditions;

@@ -14,8 +14,6 @@ mod reels;
 mod rules;
 mod setups;
 mod stages;
-#[cfg(test)]
-mod tests;
 mod types;
 mod values;
 

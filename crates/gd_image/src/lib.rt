@@ -17,8 +17,6 @@ mod read_fields;
 mod recalled;
 mod spelling;
 mod sums;
-#[cfg(test)]
-mod tests;
 mod under_setup;
 mod writing;
 

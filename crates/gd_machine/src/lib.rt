@@ -6,8 +6,6 @@ mod games;
 pub mod laws;
 mod machine;
 mod parts;
-#[cfg(test)]
-mod tests;
 mod texts;
 
 pub use machine::Machine;

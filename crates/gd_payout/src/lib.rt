@@ -3,8 +3,6 @@
 
 mod open_order;
 mod payout;
-#[cfg(test)]
-mod tests;
 
 pub use gd_base::{Handpay, Order, OrderKind};
 pub use payout::Payout;

@@ -1,3 +1,2 @@
 pub mod Fresh
 mod Held
-mod ToyLemmas

@@ -6,8 +6,6 @@ mod choosing;
 pub mod laws;
 mod paytable;
 mod play_machine;
-#[cfg(test)]
-mod tests;
 
 pub use paytable::Paytable;
 pub use play_machine::PlayMachine;

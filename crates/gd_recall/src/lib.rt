@@ -8,8 +8,6 @@ mod play_record;
 mod recall;
 mod rows;
 mod short_records;
-#[cfg(test)]
-mod tests;
 
 pub use play_record::{is_recorded_play, play_image, read_play};
 pub use recall::Recall;

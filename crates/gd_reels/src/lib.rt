@@ -5,8 +5,6 @@
 mod line;
 mod prizes;
 mod scatters;
-#[cfg(test)]
-mod tests;
 mod windows;
 
 pub use line::line_pay;

@@ -14,8 +14,6 @@ mod names;
 mod printing;
 mod reading;
 mod tables;
-#[cfg(test)]
-mod tests;
 mod words;
 
 pub use gd_disk::Side;

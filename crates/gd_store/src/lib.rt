@@ -10,8 +10,6 @@ mod making;
 mod opening;
 mod room;
 mod store;
-#[cfg(test)]
-mod tests;
 
 pub use booting::{Booted, boot};
 pub use copy::{CopyState, Found, LAYOUT, Layout, MOST_SEQUENCE, PageState, Why};

@@ -9,8 +9,6 @@ mod names;
 mod number;
 mod reading;
 mod rows;
-#[cfg(test)]
-mod tests;
 mod words;
 
 pub use limits::{DEFAULT_SEED, LEAST_ITEMS, MOST_ITEMS};

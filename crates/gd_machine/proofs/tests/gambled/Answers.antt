@@ -1,5 +1,0 @@
-use Rattle.std.proofs.Common.{refl}
-use Rattle.gd_machine.proofs.tests.gambled.Goals as goal
-
-pub returns : goal.returns
-returns c = refl
