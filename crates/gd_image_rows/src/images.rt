@@ -1,15 +1,12 @@
 //! Commands that look at an image or make one, and setups in a file: what they print, how they end and what they leave.
 
 use crate::commands::{
-    DIFFERS, IN_A, IN_B, ROOM, altered, command, expect, expect_copies, expect_unchanged, file,
-    unread, zero_disk,
+    DIFFERS, Given, IN_A, IN_B, Look, MAKING, ROOM, Step, altered, carry_out, carry_step,
+    expect_copies, expect_looks, expect_steps, expect_told, source_of, zero_disk,
 };
 use gd_base::MemorySource;
-use gd_disk::MemoryDisk;
-use gd_runs::runs::lines;
+use gd_runs::runs::zeros;
 use gd_top::Status;
-use std::alloc::Global;
-use std::process::Abort;
 use std::test::Fail;
 
 /// The text of the state of the empty history.
@@ -21,207 +18,171 @@ const EMPTY_STATE: &[&str] = &[
     "play none",
 ];
 
-/// An image is made once. It is looked at, and another setup is told by both digests.
+/// An image of zeros is locked.
+#[rattlefmt::skip]
+const ZEROS: &[Look] = &[
+    (&["check", "m"], Status::Locked, &["a shut", "b shut", "locked"]),
+    (&["show", "state", "m"], Status::Locked, &["locked"]),
+];
+
+/// A memory that was made isn't made again, and is looked at.
+#[rattlefmt::skip]
+const MADE: &[Look] = &[
+    (&["init", "m"], Status::AlreadyMade, &["already made"]),
+    (&["check", "m"], Status::Done, &["a sound 0", "b sound 0"]),
+    (&["show", "state", "m"], Status::Done, EMPTY_STATE),
+    (&["show", "recall", "m"], Status::Done, &["recall 0"]),
+    (&["show", "events", "m"], Status::Done, &["events 0", "bills 0", "vouchers 0"]),
+    (&["show", "order", "m"], Status::Done, &["order none"]),
+];
+
+/// A setup that has a credit of one cent.
+const OF_ONE_CENT: Option<&[&str]> = Some(&["denom = 1"]);
+
+/// Under another setup no text is shown, and both digests are told. The copies are told as ever.
+#[rattlefmt::skip]
+const DIFFERING: &[Step] = &[
+    Step {
+        words: &["show", "meters", "m", "--setup", "s"], setup: OF_ONE_CENT, script: None,
+        status: Status::SetupDiffers, report: &[DIFFERS], stands: true,
+    },
+    Step {
+        words: &["check", "m", "--setup", "s"], setup: OF_ONE_CENT, script: None,
+        status: Status::Done, report: &["a sound 0", "b sound 0"], stands: true,
+    },
+];
+
 #[test]
 fn image_commands(rt: HostRuntime) -> Result<(), Fail> {
     let alloc = rt.alloc();
-    let disk = zero_disk(alloc, None)?;
-    let disk = expect_unchanged(
-        &rt,
-        alloc,
-        disk,
-        &["check", "m"],
-        Status::Locked,
-        &["a shut", "b shut", "locked"],
-    )?;
-    let disk = expect_unchanged(
-        &rt,
-        alloc,
-        disk,
-        &["show", "state", "m"],
-        Status::Locked,
-        &["locked"],
-    )?;
-    let disk = expect(&rt, alloc, disk, &["init", "m"], Status::Done, &["made"])?;
-    let disk = expect_unchanged(
-        &rt,
-        alloc,
-        disk,
-        &["init", "m"],
-        Status::AlreadyMade,
-        &["already made"],
-    )?;
-    let disk = expect_copies(&rt, alloc, disk, &["a sound 0", "b sound 0"])?;
-    let disk = expect_unchanged(
-        &rt,
-        alloc,
-        disk,
-        &["show", "state", "m"],
-        Status::Done,
-        EMPTY_STATE,
-    )?;
-    let disk = expect_unchanged(
-        &rt,
-        alloc,
-        disk,
-        &["show", "recall", "m"],
-        Status::Done,
-        &["recall 0"],
-    )?;
-    let disk = expect_unchanged(
-        &rt,
-        alloc,
-        disk,
-        &["show", "events", "m"],
-        Status::Done,
-        &["events 0", "bills 0", "vouchers 0"],
-    )?;
-    let disk = expect_unchanged(
-        &rt,
-        alloc,
-        disk,
-        &["show", "order", "m"],
-        Status::Done,
-        &["order none"],
-    )?;
-    let _disk = expect_differing(&rt, alloc, disk)?;
+    let disk = expect_looks(&rt, alloc, zero_disk(alloc, None)?, ZEROS)?;
+    let disk = expect_told(&rt, alloc, disk, zeros(alloc), &MAKING)?;
+    let disk = expect_looks(&rt, alloc, disk, MADE)?;
+    let _disk = expect_steps(&rt, alloc, disk, DIFFERING)?;
     Ok(())
 }
 
-/// Under a setup with a credit of one cent the text isn't shown, and the copies are told as ever.
-fn expect_differing(rt: &impl Abort, alloc: Global, disk: MemoryDisk) -> Result<MemoryDisk, Fail> {
-    let words = &["show", "meters", "m", "--setup", "s"];
-    let ran = command(alloc, words, file(alloc, b"denom = 1\n")?, ROOM, disk)?;
-    assert_eq!(rt; ran.status, Status::SetupDiffers);
-    assert_eq!(rt; ran.output.bytes(), lines(alloc, &[DIFFERS])?.as_slice());
-    let words = &["check", "m", "--setup", "s"];
-    let ran = command(alloc, words, file(alloc, b"denom = 1\n")?, ROOM, ran.disk)?;
-    assert_eq!(rt; ran.status, Status::Done);
-    assert_eq!(rt; ran.output.bytes(), b"a sound 0\nb sound 0\n".as_slice());
-    Ok(ran.disk)
-}
+/// One damaged copy is told, and the memory is shown from the other.
+#[rattlefmt::skip]
+const ONE_DAMAGED: &[Look] = &[
+    (&["check", "m"], Status::Done, &["a page 1", "b sound 0"]),
+    (&["show", "state", "m"], Status::Done, EMPTY_STATE),
+    (&["init", "m"], Status::AlreadyMade, &["already made"]),
+];
 
-/// One damaged copy is told, and the memory is shown from the other. Where both are damaged it is locked, and a new memory may be
-/// made.
+/// Where both are damaged the memory is locked.
+#[rattlefmt::skip]
+const BOTH_DAMAGED: &[Look] = &[
+    (&["check", "m"], Status::Locked, &["a page 1", "b page 15", "locked"]),
+    (&["show", "state", "m"], Status::Locked, &["locked"]),
+];
+
+/// Over a locked memory a new one may be made.
 #[test]
 fn damaged_images(rt: HostRuntime) -> Result<(), Fail> {
     let alloc = rt.alloc();
-    let disk = altered(&rt, alloc, &[(IN_A, 1)])?;
-    let disk = expect_copies(&rt, alloc, disk, &["a page 1", "b sound 0"])?;
-    let disk = expect_unchanged(
-        &rt,
-        alloc,
-        disk,
-        &["show", "state", "m"],
-        Status::Done,
-        EMPTY_STATE,
-    )?;
-    let _disk = expect_unchanged(
-        &rt,
-        alloc,
-        disk,
-        &["init", "m"],
-        Status::AlreadyMade,
-        &["already made"],
-    )?;
-    let disk = altered(&rt, alloc, &[(IN_A, 1), (IN_B, 1)])?;
-    let disk = expect_unchanged(
-        &rt,
-        alloc,
-        disk,
-        &["check", "m"],
-        Status::Locked,
-        &["a page 1", "b page 15", "locked"],
-    )?;
-    let disk = expect_unchanged(
-        &rt,
-        alloc,
-        disk,
-        &["show", "state", "m"],
-        Status::Locked,
-        &["locked"],
-    )?;
-    let disk = expect(&rt, alloc, disk, &["init", "m"], Status::Done, &["made"])?;
-    let _disk = expect_copies(&rt, alloc, disk, &["a sound 0", "b sound 0"])?;
-    Ok(())
+    let disk = altered(&rt, alloc, &[IN_A])?;
+    let _disk = expect_looks(&rt, alloc, disk, ONE_DAMAGED)?;
+    let disk = altered(&rt, alloc, &[IN_A, IN_B])?;
+    let disk = expect_looks(&rt, alloc, disk, BOTH_DAMAGED)?;
+    let disk = expect_told(&rt, alloc, disk, zeros(alloc), &MAKING)?;
+    expect_copies(&rt, alloc, disk, &["a sound 0", "b sound 0"])
 }
 
-/// The calls of an `init` over zeros: two reads of the copies, two of the gates, a sync, and two writes with a sync each for either
-/// copy.
-const INIT_CALLS: u64 = 13;
+/// Commands over a disk of zeros, and how many calls they make. Those of `init` are two reads of the copies, two of the gates, a
+/// sync, and two writes with a sync each for either copy.
+#[rattlefmt::skip]
+const CALLS: &[(&[&str], u64)] = &[
+    (&["init", "m"], 13),
+    (&["check", "m"], 2),
+    (&["show", "meters", "m"], 2),
+];
 
-/// A disk that fails at any call of a command is told.
+/// A disk that fails at any call of a command is told, and at the call behind the last one it isn't.
 #[test]
 fn failing_disks(rt: HostRuntime) -> Result<(), Fail> {
     let alloc = rt.alloc();
-    for call in 1..=INIT_CALLS {
-        let disk = zero_disk(alloc, Some(call))?;
-        let _disk = expect(
-            &rt,
-            alloc,
-            disk,
-            &["init", "m"],
-            Status::DiskFault,
-            &["disk fault"],
-        )?;
-    }
-    let disk = zero_disk(alloc, Some(INIT_CALLS + 1))?;
-    let _disk = expect(&rt, alloc, disk, &["init", "m"], Status::Done, &["made"])?;
-    for words in [["check", "m"].as_slice(), &["show", "meters", "m"]] {
-        for call in 1..=2 {
-            let disk = zero_disk(alloc, Some(call))?;
-            let _disk = expect(&rt, alloc, disk, words, Status::DiskFault, &["disk fault"])?;
+    for (words, calls) in CALLS {
+        for call in 1..=*calls + 1 {
+            let given = Given {
+                setup: source_of(alloc, None)?,
+                script: source_of(alloc, None)?,
+                room: ROOM,
+                disk: zero_disk(alloc, Some(call))?,
+            };
+            let ran = carry_out(alloc, words, given, zeros(alloc))?;
+            assert_eq!(&rt;
+                ran.status == Status::DiskFault,
+                call <= *calls,
+                "{words:?} {call}"
+            );
+            assert_eq!(&rt;
+                ran.output.bytes() == b"disk fault\n".as_slice(),
+                call <= *calls,
+                "{words:?} {call}"
+            );
         }
     }
     Ok(())
 }
 
+/// What `check` prints of a memory that was made.
+const CHECKED: &[u8] = b"a sound 0\nb sound 0\n";
+
 /// A sink that fails takes just what it has room for.
 #[test]
 fn failing_sinks(rt: HostRuntime) -> Result<(), Fail> {
     let alloc = rt.alloc();
-    let wanted = b"a sound 0\nb sound 0\n";
-    for room in 0..wanted.len() {
-        let disk = altered(&rt, alloc, &[])?;
-        let ran = command(alloc, &["check", "m"], unread(alloc), room, disk)?;
+    for room in 0..CHECKED.len() {
+        let given = Given {
+            setup: source_of(alloc, None)?,
+            script: source_of(alloc, None)?,
+            room,
+            disk: altered(&rt, alloc, &[])?,
+        };
+        let ran = carry_out(alloc, &["check", "m"], given, zeros(alloc))?;
         assert_eq!(&rt; ran.status, Status::WriteFault);
-        assert_eq!(&rt; ran.output.bytes(), wanted.get(..room).unwrap_or_default());
+        assert_eq!(&rt; ran.output.bytes(), CHECKED.get(..room).unwrap_or_default());
     }
-    let ran = command(
-        alloc,
-        &["init", "m"],
-        unread(alloc),
-        0,
-        zero_disk(alloc, None)?,
-    )?;
+    let disk = zero_disk(alloc, None)?;
+    let ran = carry_step(alloc, disk, zeros(alloc), 0, &MAKING)?;
     assert_eq!(&rt; ran.status, Status::WriteFault);
-    let _disk = expect_copies(&rt, alloc, ran.disk, &["a sound 0", "b sound 0"])?;
-    Ok(())
+    expect_copies(&rt, alloc, ran.disk, &["a sound 0", "b sound 0"])
 }
 
-/// A setup whose file ends so is refused, and nothing is made.
+/// Setups that are refused, where nothing is made.
+#[rattlefmt::skip]
+const REFUSED: &[Step] = &[
+    Step {
+        words: &["init", "m", "--setup", "s"], setup: Some(&["denom = 0"]), script: None,
+        status: Status::SetupRefused, report: &["setup denom"], stands: true,
+    },
+    // A file that can't be read.
+    Step {
+        words: &["init", "m", "--setup", "s"], setup: None, script: None,
+        status: Status::ReadFault, report: &["read fault"], stands: true,
+    },
+];
+
+/// A setup of one comment is refused where it has more than 65,536 bytes.
 #[test]
 fn refused_setups(rt: HostRuntime) -> Result<(), Fail> {
     let alloc = rt.alloc();
-    let words = &["init", "m", "--setup", "s"];
-    let ran = command(
-        alloc,
-        words,
-        file(alloc, b"denom = 0\n")?,
-        ROOM,
-        zero_disk(alloc, None)?,
-    )?;
-    assert_eq!(&rt; ran.status, Status::SetupRefused);
-    assert_eq!(&rt; ran.output.bytes(), b"setup denom\n".as_slice());
-    let ran = command(alloc, words, unread(alloc), ROOM, ran.disk)?;
-    assert_eq!(&rt; ran.status, Status::ReadFault);
-    assert_eq!(&rt; ran.output.bytes(), b"read fault\n".as_slice());
-    let long = MemorySource::of(vec![in alloc; b'#'; 65_537]?, None);
-    let ran = command(alloc, words, long, ROOM, ran.disk)?;
-    assert_eq!(&rt; ran.status, Status::SetupRefused);
-    assert_eq!(&rt; ran.output.bytes(), b"setup text\n".as_slice());
-    let whole = MemorySource::of(vec![in alloc; b'#'; 65_536]?, None);
-    let ran = command(alloc, words, whole, ROOM, ran.disk)?;
-    assert_eq!(&rt; ran.status, Status::Done);
+    let mut disk = expect_steps(&rt, alloc, zero_disk(alloc, None)?, REFUSED)?;
+    for (len, status, printed) in [
+        (65_537, Status::SetupRefused, "setup text\n"),
+        (65_536, Status::Done, "made\n"),
+    ] {
+        let given = Given {
+            setup: MemorySource::of(vec![in alloc; b'#'; len]?, None),
+            script: source_of(alloc, None)?,
+            room: ROOM,
+            disk,
+        };
+        let ran = carry_out(alloc, &["init", "m", "--setup", "s"], given, zeros(alloc))?;
+        assert_eq!(&rt; ran.status, status);
+        assert_eq!(&rt; ran.output.bytes(), printed.as_bytes());
+        disk = ran.disk;
+    }
     Ok(())
 }
