@@ -1,4 +1,4 @@
-//! What no clause says: that the calls succeed, and at which calls of the disk they fail. The core only counts.
+//! What no clause of gd_cabinet says: that the calls succeed, and at which calls of the disk they fail. The core only counts.
 ghost use Rattle.std.specs.Prelude.{◌≡◌, ◌≢◌, ◌+◌, ◌-◌, ◌≤◌, ◌^◌, ◌==◌, nat_le, if◌then◌else◌, ℕ, [], take, replicate, refl, false, IfOk, OnOk};
 ghost use Rattle.std.specs.Coded.{coded_ℕ};
 ghost use Rattle.std.specs.Int.{w64, from_be_bytes};

@@ -1,4 +1,4 @@
-//! What no clause says: that a platform is to be had, and which bytes of a payload are looked at. The core is called
+//! What no clause of gd_image says: that a platform is to be had, and which bytes of a payload are looked at. The core is called
 //! through its bound.
 
 mod rows;

@@ -1,4 +1,4 @@
-//! Money that comes in, repeats, and doors and tilts.
+//! Histories of gd_machine: money that comes in, repeats, and doors and tilts.
 
 use crate::tested::{TAKEN, Tested, refused};
 use gd_base::{Condition, Door, Event, Meter, Refusal, Reply, Stepped, Tilt, What};

@@ -1,4 +1,4 @@
-//! Money that is paid out.
+//! Histories of gd_machine: money that is paid out.
 
 use crate::tested::{TAKEN, Tested, refused};
 use gd_base::{Event, Meter, Refusal, Tilt, What};

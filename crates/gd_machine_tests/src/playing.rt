@@ -1,4 +1,4 @@
-//! Plays, from their draw to their end.
+//! Histories of gd_machine: plays, from their draw to their end.
 
 use crate::tested::{TAKEN, Tested, refused};
 use gd_base::{Block, Colour, Condition, Door, Event, Game, Meter, Refusal, What};

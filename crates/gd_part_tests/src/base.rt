@@ -1,4 +1,5 @@
-//! What no clause says: that calls succeed, and what the adapters make of a reader and a writer that fail in mid-stream.
+//! What no clause of gd_base says: that calls succeed, and what the adapters make of a reader and a writer that fail in mid-
+//! stream.
 use gd_base::{
     Block, ChaChaDraws, Colour, Condition, Device, Draws, Event, ListDraws, MemorySink,
     MemorySource, Meter, Reading, Refusal, Reply, Sink, Source, Text, Writing, push_meters,

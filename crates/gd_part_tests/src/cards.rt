@@ -1,5 +1,5 @@
-//! What no clause says: the ranks of hands that were written out by hand, each with its nearest miss, and cards that
-//! were computed outside of the program.
+//! What no clause of gd_cards says: the ranks of hands that were written out by hand, each with its nearest miss, and cards
+//! that were computed outside of the program.
 
 use gd_base::Block;
 use gd_cards::{Colour, Hand, Rank, colour, deal, rank, replace};

@@ -1,4 +1,4 @@
-//! Worked bytes of what a loss leaves, and the calls of each disk.
+//! Disks in memory and in a laboratory (gd_disk): worked bytes of what a loss leaves, and the calls of each.
 use gd_disk::{CutUnit, Disk, Failed, LabDisk, MOST_CUTS, MOST_TORN, MemoryDisk, MemoryLab, Off};
 use std::process::Abort;
 use std::test::Fail;

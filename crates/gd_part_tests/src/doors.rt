@@ -1,4 +1,4 @@
-//! What no clause says: which condition each door and each tilt makes, and which of several is shown, by name.
+//! What no clause of gd_doors says: which condition each door and each tilt makes, and which of several is shown, by name.
 
 use gd_base::{Condition, Door, Refusal, Tilt};
 use gd_doors::Conditions;

@@ -1,4 +1,4 @@
-//! What no clause says of a disk over a file: that bytes reach the file, and over which files it is off.
+//! What no clause says of a disk over a file (gd_disk): that bytes reach the file, and over which files it is off.
 use gd_disk::{DISK_LEN, Disk, FileDisk, Off};
 use std::alloc::{AllocError, Global};
 use std::fs;

@@ -1,5 +1,5 @@
-//! What no clause says: what is paid at each limit of the built-in setup, and what each call of an account and of a
-//! payout leaves, in numbers that were worked out by hand. The calls of gd_account stand here too.
+//! What no clause of gd_account and gd_payout says: what is paid at each limit of the built-in setup, and what each call of an
+//! account and of a payout leaves, in numbers that were worked out by hand.
 
 ghost use Rattle.std.specs.Prelude.{◌≡◌, ◌≤◌, IsTrue};
 ghost use Rattle.gd_base.specs.declared.limits.TheConstants.{MOST_AMOUNT};

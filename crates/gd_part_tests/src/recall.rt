@@ -1,4 +1,4 @@
-//! What no clause says: that the lists are to be had, what they keep of more records than they hold, and bytes of
+//! What no clause of gd_recall says: that the lists are to be had, what they keep of more records than they hold, and bytes of
 //! records as docs/FORMATS.md has them.
 
 use gd_base::{BillRecord, EventRecord, Game, PAYLOAD_LEN, PlayRecord, VoucherRecord};

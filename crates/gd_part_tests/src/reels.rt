@@ -1,4 +1,4 @@
-//! What no clause says: that the tables of the built-in setup are those of docs/FORMATS.md, and what some blocks show
+//! What no clause of gd_reels says: that the tables of the built-in setup are those of docs/FORMATS.md, and what some blocks show
 //! and win under them.
 
 ghost use Rattle.std.specs.Prelude.{◌<◌};

@@ -1,5 +1,5 @@
-//! What no clause says: that the definitions are the grammar of docs/FORMATS.md. Each row of it once and at the ends of
-//! its ranges, read and printed back, and lines that are nearly of it. And that the definition of a soak run's items is
+//! What no clause of gd_script says: that the definitions are the grammar of docs/FORMATS.md. Each row of it once and at the
+//! ends of its ranges, read and printed back, and lines that are nearly of it. And that the definition of a soak run's items is
 //! their rule.
 
 use gd_base::{Colour, Device, Door, Event, Game, Text, Tilt, What};

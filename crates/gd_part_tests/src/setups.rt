@@ -1,4 +1,5 @@
-//! Files of setups, and digests.
+//! What no clause of gd_games says of the file of a setup: that each rule has the name and the limits of docs/FORMATS.md, that
+//! the file of the built-in setup is read as that setup, and its digest as another program computes it.
 
 use gd_base::{REEL_PAYS, STRIPS, Setup};
 use gd_games::{MOST_FILE_LEN, SetupError, SetupFault, built_in, read_setup, setup_digest};

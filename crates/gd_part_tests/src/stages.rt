@@ -1,4 +1,5 @@
-//! Plays of poker with gamble turns. The cards were computed outside of the program.
+//! What no clause of gd_games says of a play: plays of poker with gamble turns that were worked out by hand. The cards were
+//! computed outside of the program.
 
 ghost use Rattle.std.specs.Prelude.{◌≤◌};
 

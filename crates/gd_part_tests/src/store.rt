@@ -1,4 +1,4 @@
-//! What no clause says: that the calls succeed, the bytes of a copy, and what is found after a cut at each call.
+//! What no clause of gd_store says: that the calls succeed, the bytes of a copy, and what is found after a cut at each call.
 ghost use Rattle.std.specs.Prelude.{◌≡◌, length, IfOk, OnOk};
 ghost use Rattle.gd_disk.specs.Disk.{IsSynced};
 ghost use Rattle.gd_store.specs.OpenAnswer.{IsOpenable};

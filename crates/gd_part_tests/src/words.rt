@@ -1,5 +1,5 @@
-//! What no clause says: that the command line takes options as docs/COMMANDS.md says. Each row of it with its options in
-//! each place, at the ends of its numbers, and words that are nearly of a row.
+//! What no clause of gd_words says: that the command line takes options as docs/COMMANDS.md says. Each row of it with its
+//! options in each place, at the ends of its numbers, and words that are nearly of a row.
 
 use gd_base::What;
 use gd_words::{Command, Words, WordsError, read_words};
