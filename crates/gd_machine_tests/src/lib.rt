@@ -1,8 +1,6 @@
-//! What no clause says of the machine, its image and the cabinet, as tests by their public calls.
+//! What no clause says of the machine and its image, as tests by their public calls.
 #![tactic(auto)]
 
-#[cfg(test)]
-mod cabinet;
 #[cfg(test)]
 mod image;
 #[cfg(test)]

@@ -6,11 +6,7 @@ mod base;
 #[cfg(test)]
 mod cards;
 #[cfg(test)]
-mod disks;
-#[cfg(test)]
 mod doors;
-#[cfg(test)]
-mod files;
 #[cfg(test)]
 mod payout;
 #[cfg(test)]
@@ -23,7 +19,5 @@ mod script;
 mod setups;
 #[cfg(test)]
 mod stages;
-#[cfg(test)]
-mod store;
 #[cfg(test)]
 mod words;
