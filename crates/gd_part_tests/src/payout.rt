@@ -3,7 +3,8 @@
 
 ghost use Rattle.std.specs.Prelude.{◌≡◌, ◌≤◌, IsTrue};
 ghost use Rattle.gd_base.specs.declared.limits.TheConstants.{MOST_AMOUNT};
-ghost use Rattle.gd_base.specs.Histories.Meters.{handpay_amount, order_amount};
+ghost use Rattle.gd_base.specs.Histories.Credit.{order_amount};
+ghost use Rattle.gd_base.specs.Histories.Meters.{handpay_amount};
 ghost use Rattle.gd_base.specs.Setups.SetupRules.{are_bills};
 
 use gd_account::{Account, AccountParts, Posted, shown};
