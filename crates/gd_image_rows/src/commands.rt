@@ -252,9 +252,10 @@ pub fn expect_copies(
     Ok(())
 }
 
-/// Masks on byte 2,000 of copy a, in its page 1, and on byte 9,000 of copy b, in its page 15.
+/// A mask on byte 2,000 of copy a, which is in its page 1: the place on the disk, and the mask.
 pub const IN_A: (usize, u8) = (2000, 1);
 
+/// A mask on byte 9,000 of copy b, which is in its page 15.
 pub const IN_B: (usize, u8) = (17_457 + 9000, 1);
 
 /// The digests of the built-in setup, and of the one that has a credit of one cent.

@@ -3,9 +3,10 @@
 
 mod rows;
 
+use crate::blocks::three_scatters;
 use gd_base::{
-    Block, Core, Door, Event, Game, Loaded, Numbered, OPEN_AT, Order, OrderKind, PAYLOAD_LEN,
-    Reply, Setup, Stepped, Text, What,
+    Core, Door, Event, Game, Loaded, Numbered, OPEN_AT, Order, OrderKind, PAYLOAD_LEN, Reply,
+    Setup, Stepped, Text, What,
 };
 use gd_games::{built_in, setup_digest};
 use gd_image::Platform;
@@ -13,21 +14,12 @@ use std::alloc::{AllocError, Global};
 use std::process::Abort;
 use std::test::Fail;
 
-/// Words by which a play of nine credits on the reels has the pick, and the second door 450 cents.
-fn pick_words() -> Block {
-    let mut words = [0; 16];
-    words[0] = 0x3800_0000_0000_0000;
-    words[2] = 0x6800_0000_0000_0000;
-    words[10] = 0x6666_6666_6666_6667;
-    words
-}
-
 /// Whether a new event was taken.
 fn taken<C: Core>(core: &mut C, number: u64, event: Event) -> bool {
     let e = Numbered { number, event };
     let stepped = if core.needs_draw(&e) {
         let index = core.draw_index();
-        core.step(&e, Some((index, pick_words())))
+        core.step(&e, Some((index, three_scatters())))
     } else {
         core.step(&e, None)
     };

@@ -83,8 +83,8 @@ fn red_suits_lie_between_black_ones(rt: HostRuntime) {
     assert_eq!(rt; colour(39), Colour::Black);
 }
 
-/// Words that deal 9s Ac Kc Tc As, and then 7s 5c 9c Qs 3c.
-const WORDS: Block = [
+/// Words that deal 9s Ac Kc Tc As, and then 7s 5c 9c Qs 3c. They show a black card at each gamble turn.
+pub(crate) const ACES: Block = [
     0xe71b_9592_244e_ceca,
     0x3fcb_4b70_f79a_7ffc,
     0x3bce_14ab_261d_b1d4,
@@ -105,13 +105,13 @@ const WORDS: Block = [
 
 #[test]
 fn words_deal_and_replace_cards(rt: HostRuntime) {
-    let dealt = deal(&WORDS);
+    let dealt = deal(&ACES);
     assert_eq!(rt; dealt.cards, [46, 12, 11, 8, 51]);
-    assert_eq!(rt; replace(&dealt, 0b11111, &WORDS), dealt);
-    assert_eq!(rt; replace(&dealt, 0, &WORDS).cards, [44, 3, 7, 49, 1]);
+    assert_eq!(rt; replace(&dealt, 0b11111, &ACES), dealt);
+    assert_eq!(rt; replace(&dealt, 0, &ACES).cards, [44, 3, 7, 49, 1]);
     // The first card is bit 0 of the mask, and the cards that are not held are replaced from the left.
-    assert_eq!(rt; replace(&dealt, 0b01101, &WORDS).cards, [46, 44, 11, 8, 3]);
-    assert_eq!(rt; replace(&dealt, 0b10000, &WORDS).cards, [44, 3, 7, 49, 51]);
+    assert_eq!(rt; replace(&dealt, 0b01101, &ACES).cards, [46, 44, 11, 8, 3]);
+    assert_eq!(rt; replace(&dealt, 0b10000, &ACES).cards, [44, 3, 7, 49, 51]);
 }
 
 #[test]
@@ -119,7 +119,7 @@ fn any_hand_is_replaced_from_the_others(rt: HostRuntime) {
     let hand = Hand {
         cards: [12, 0, 51, 25, 38],
     };
-    assert_eq!(rt; replace(&hand, 0, &WORDS).cards, [45, 4, 8, 49, 2]);
+    assert_eq!(rt; replace(&hand, 0, &ACES).cards, [45, 4, 8, 49, 2]);
     assert_eq!(rt; replace(&hand, 0, &[0; 16]).cards, [1, 2, 3, 4, 5]);
     assert_eq!(rt;
         replace(&hand, 0b01101, &[u64::MAX; 16]).cards,

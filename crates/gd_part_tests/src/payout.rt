@@ -1,52 +1,17 @@
 //! What no clause of gd_account and gd_payout says: what is paid at each limit of the built-in setup, and what each call of an
 //! account and of a payout leaves, in numbers that were worked out by hand.
 
-ghost use Rattle.std.specs.Prelude.{◌≡◌, ◌≤◌, IsTrue};
-ghost use Rattle.gd_base.specs.declared.limits.TheConstants.{MOST_AMOUNT};
+ghost use Rattle.std.specs.Prelude.{◌≡◌};
 ghost use Rattle.gd_base.specs.Histories.Credit.{order_amount};
 ghost use Rattle.gd_base.specs.Histories.Meters.{handpay_amount};
-ghost use Rattle.gd_base.specs.Setups.SetupRules.{are_bills};
 
 use gd_account::{Account, AccountParts, Posted, shown};
-use gd_base::{Handpay, Meter, Order, OrderKind, PRIZES, REEL_PAYS, Refusal, STRIPS, Setup};
+use gd_base::{Handpay, Meter, Order, OrderKind, Refusal, Setup};
+use gd_games::built_in;
 use gd_payout::Payout;
 use std::process::Abort;
 
 // ================ machines
-
-/// The bills of the built-in setup.
-const BILLS: [u32; 8] = [100, 500, 1000, 2000, 5000, 10_000, 0, 0];
-
-/// The built-in setup, but for its bills, its credit limit and its hopper.
-fn setup_of(bills: [u32; 8], bill_count: u8, credit_limit: u32, hopper: bool) -> Setup
-    requires bills { IsTrue (are_bills bill_count bills) }
-    requires least { 1 ≤ credit_limit }
-    requires most { credit_limit ≤ MOST_AMOUNT }
-{
-    Setup {
-        denom: 5,
-        credit_limit,
-        handpay_limit: 120_000,
-        gamble_limit: 20_000,
-        bills,
-        bill_count,
-        coin: 25,
-        hopper,
-        hopper_limit: 2000,
-        voucher_limit: 300_000,
-        reels_enabled: true,
-        strips: STRIPS,
-        reel_pays: REEL_PAYS,
-        prizes: PRIZES,
-        poker_enabled: true,
-        poker_pays: [250, 50, 25, 9, 6, 4, 3, 2, 1],
-    }
-}
-
-/// The built-in setup.
-fn built_in() -> Setup {
-    setup_of(BILLS, 6, 1_000_000, true)
-}
 
 /// The parts of an account with these amounts, and no counts yet.
 fn parts_of(balance: u64, amounts: [u64; 9]) -> AccountParts {
@@ -193,7 +158,9 @@ fn each_balance_is_paid_by_its_device(rt: HostRuntime) {
     machine.refuses(&rt, Deed::CashOut, Refusal::NothingToPay);
     machine.rests(&rt, parts_of(0, [0; 9]));
     // With no hopper it is printed.
-    let mut machine = Machine::new(setup_of(BILLS, 6, 1_000_000, false), 1975);
+    let mut setup = built_in();
+    setup.hopper = false;
+    let mut machine = Machine::new(setup, 1975);
     machine.does(&rt, Deed::CashOut);
     machine.orders(&rt, 1, OrderKind::Printer, 1975, 0);
 }
@@ -381,7 +348,8 @@ fn money_is_taken_up_to_the_credit_limit(rt: HostRuntime) {
             "{meter:?} {value}"
         );
     }
-    let setup = setup_of(BILLS, 6, 100_000_000, true);
+    let mut setup = built_in();
+    setup.credit_limit = 100_000_000;
     for (value, is_taken) in VOUCHERS {
         let mut account = Account::from_parts(parts_of(0, [0; 9]));
         let answer = take(&rt, &setup, &mut account, Meter::VoucherIn, value);
@@ -401,7 +369,8 @@ fn money_is_taken_up_to_the_credit_limit(rt: HostRuntime) {
 
 #[test]
 fn meter_rolls_over_in_what_is_shown(rt: HostRuntime) {
-    let setup = setup_of([1, 0, 0, 0, 0, 0, 0, 0], 1, 1_000_000, true);
+    let mut setup = built_in();
+    setup.bills = [1, 500, 1000, 2000, 5000, 10_000, 0, 0];
     let full = 9_999_999_999;
     assert_eq!(rt; shown(full), full);
     let mut account = Account::from_parts(parts_of(0, [full, 0, 0, 0, 0, full, 0, 0, 0]));

@@ -3,31 +3,10 @@
 
 ghost use Rattle.std.specs.Prelude.{◌<◌};
 
-use gd_base::{Block, PRIZES, REEL_PAYS, STRIPS, Setup};
+use gd_base::Block;
+use gd_games::built_in;
 use gd_reels::{Window, line_pay, prize, scatter_count, window};
 use std::process::Abort;
-
-/// The built-in setup.
-fn built_in() -> Setup {
-    Setup {
-        denom: 5,
-        credit_limit: 1_000_000,
-        handpay_limit: 120_000,
-        gamble_limit: 20_000,
-        bills: [100, 500, 1000, 2000, 5000, 10_000, 0, 0],
-        bill_count: 6,
-        coin: 25,
-        hopper: true,
-        hopper_limit: 2000,
-        voucher_limit: 300_000,
-        reels_enabled: true,
-        strips: STRIPS,
-        reel_pays: REEL_PAYS,
-        prizes: PRIZES,
-        poker_enabled: true,
-        poker_pays: [250, 50, 25, 9, 6, 4, 3, 2, 1],
-    }
-}
 
 /// What the nine lines of a window win, in credits.
 fn wins(shown: &Window) -> [u32; 9] {

@@ -3,6 +3,7 @@
 
 ghost use Rattle.std.specs.Prelude.{◌≤◌};
 
+use crate::cards::ACES;
 use gd_base::{Block, Choices, Game, PlayRecord, Stage, StageOpen};
 use gd_games::{built_in, played, stage};
 
@@ -18,26 +19,6 @@ const ROYAL: Block = [
     0,
     0,
     0,
-    0,
-    0,
-    0,
-    0,
-    0,
-    0,
-];
-
-/// Words that deal 9s Ac Kc Tc As, then 7s 5c 9c for those that aren't held, and show a black card at each turn.
-const ACES: Block = [
-    0xe71b_9592_244e_ceca,
-    0x3fcb_4b70_f79a_7ffc,
-    0x3bce_14ab_261d_b1d4,
-    0x2a43_8f2a_3172_f442,
-    0xff3f_3f8c_fe53_b312,
-    0xe427_f474_114d_9fce,
-    0x15d2_5341_edc5_fe85,
-    0x23eb_7164_3ac5_c727,
-    0xf4a3_cc30_5280_0e04,
-    0x09c9_c31a_e2f9_3909,
     0,
     0,
     0,

@@ -3,6 +3,7 @@
 ghost use Rattle.std.specs.Prelude.{◌≤◌};
 
 use super::{platform, written};
+use crate::blocks::royal_flush;
 use gd_base::{
     Block, COUNT_AT, Condition, Core, Event, Game, KEPT_AT, Loaded, Numbered, Refusal, Reply,
     Setup, Stepped, Text, What,
@@ -24,17 +25,6 @@ fn answered<C: Core>(core: &mut C, number: u64, event: Event, words: &Block) -> 
 }
 
 // ================ a royal flush, on both sides of the handpay limit
-
-/// Words by which the ten to the ace of clubs are dealt.
-fn royal_flush() -> Block {
-    let mut words = [0; 16];
-    words[0] = 0x2762_7627_6276_2763;
-    words[1] = 0x2828_2828_2828_2829;
-    words[2] = 0x28f5_c28f_5c28_f5c3;
-    words[3] = 0x29cb_c14e_5e0a_72f1;
-    words[4] = 0x2aaa_aaaa_aaaa_aaab;
-    words
-}
 
 /// The built-in setup with another handpay limit.
 fn setup_with(handpay_limit: u32) -> Setup
